@@ -1,0 +1,5 @@
+pub mod Size
+pub mod Nearest
+pub mod Pack
+pub mod Pattern
+pub mod Signs

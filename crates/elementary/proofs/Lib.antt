@@ -1,0 +1,6 @@
+-- What the proofs share.
+pub mod Horner
+pub mod Exponent
+pub mod Parts
+pub mod Finite
+pub mod Decomposed

@@ -1,0 +1,12 @@
+-- 1 / 0 computes to the infinity.
+use mathlib.Core.Path.{refl}
+use lib.Ieee.{div, ofBits}
+use Rattle.ieee754.proofs.infinity.Statement.{statement}
+use Rattle.ieee754.proofs.infinity.Tie as tie
+
+returns : tie.Need-returns
+unfolding div ofBits
+returns c = refl
+
+pub infinity-spec : {M : Type 1} → statement M
+infinity-spec = tie.close (tie.spec returns)

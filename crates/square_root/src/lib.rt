@@ -1,0 +1,190 @@
+// IEEE 754's squareRoot of binary64, rounded to nearest. A float estimate, of which nothing is
+// proved, is the answer where one test over whole numbers says so; elsewhere the digits of the root
+// are found one by one.
+ghost use mathlib.Core.Path.{_≡_};
+ghost use Prim.Native.Nat.{_+_, _-_, _*_, _/_, _%_, _^_, _≤_, _<_};
+ghost use lib.Ieee.{binary64, ofBits, toBits};
+ghost use Rattle.square_root.specs.SquareRoot as Spec;
+ghost use Rattle.square_root.specs.Estimate as Estimate;
+ghost use Rattle.square_root.specs.Nearest.{NearRoot, Scaled, Digits};
+
+// The digits of a number above and below 2^52.
+pub struct Split {
+    pub high: u64,
+    pub low: u64,
+}
+
+// q * (q + 1), for q up to 2^53. With q = h * 2^27 + l it is
+// (4 * h * h) * 2^52 + h * l * 2^28 + l * l + q, and each of these parts fits 64 bits.
+fn pronic(q: u64) -> Split
+    requires { ⌜ q ≤ 2 ^ 53 ⌝ }
+    ensures { λ r. ⌜ r .high ≡ q * (q + 1) / 2 ^ 52 ⌝ }
+    ensures { λ r. ⌜ r .low ≡ q * (q + 1) % 2 ^ 52 ⌝ }
+{
+    let h = q >> 27;
+    let l = q % 0x800_0000;
+    let low = l * l + q;
+    let mid = h * l + (low >> 28);
+    Split {
+        high: 4 * (h * h) + (mid >> 24),
+        low: mid % 0x100_0000 * 0x1000_0000 + low % 0x1000_0000,
+    }
+}
+
+// Whether r is the whole number nearest to the root of m * 2^52. r * (r + 1) exceeds m * 2^52 by
+// less than 2 * r, which is below 2^54, exactly where it is.
+fn is_near_root(m: u64, r: u64) -> bool
+    requires { ⌜ Scaled m ⌝ }
+    requires { ⌜ Digits r ⌝ }
+    ensures { λ y. ⌜ y ≡ Estimate.isNearRoot (m * 2 ^ 52) r ⌝ }
+{
+    let p = pronic(r);
+    if p.high < m {
+        return false;
+    }
+    let excess = p.high - m;
+    if excess >= 4 {
+        return false;
+    }
+    excess * 0x10_0000_0000_0000 + p.low < 2 * r
+}
+
+// Whether c is the pattern of the root of a normal number's pattern b.
+fn is_root(b: u64, c: u64) -> bool
+    requires { ⌜ (2 ^ 52 ≤ b) × (b < 0x7ff0_0000_0000_0000) ⌝ }
+    ensures { λ y. ⌜ y ≡ Estimate.isRoot b c ⌝ }
+{
+    let d = b / 0x10_0000_0000_0000 + 51;
+    if c / 0x10_0000_0000_0000 != d / 2 + 486 {
+        return false;
+    }
+    let m = (0x10_0000_0000_0000 + b % 0x10_0000_0000_0000) << (d % 2);
+    is_near_root(m, 0x10_0000_0000_0000 + c % 0x10_0000_0000_0000)
+}
+
+// One of Newton's steps toward 1 / sqrt(2 * h), where c is 1.5 or nearly.
+fn newton(h: f64, y: f64, c: f64) -> f64
+    ensures { λ r. ⌜ r ≡ Estimate.newton h y c ⌝ }
+{
+    y * (c - (h * y) * y)
+}
+
+// Nearly 1 / sqrt(x), for the x of the pattern b.
+fn inverse_root(b: u64) -> f64
+    requires { ⌜ b < 0x7ff0_0000_0000_0000 ⌝ }
+    ensures { λ r. ⌜ r ≡ Estimate.inverseRoot b ⌝ }
+{
+    let h = f64::from_bits(b) * 0.5;
+    let y = f64::from_bits(0x5fe6_eb50_c7b5_37a9 - b / 2);
+    newton(h, newton(h, y, 1.5008789), 1.5000006)
+}
+
+// The first 26 digits of p, whose square is exact.
+fn leading_digits(p: f64) -> f64
+    ensures { λ r. ⌜ r ≡ Estimate.leadingDigits p ⌝ }
+{
+    if p != p {
+        return p;
+    }
+    f64::from_bits(f64::to_bits(p) / 0x800_0000 * 0x800_0000)
+}
+
+// s moved by (x - s * s) / (2 * s), to the second order. y is nearly 1 / sqrt(x).
+fn corrected(x: f64, y: f64, s: f64) -> f64
+    ensures { λ r. ⌜ r ≡ Estimate.corrected x y s ⌝ }
+{
+    let g = x - s * s;
+    s + g / (s + s + g * (0.5 * y))
+}
+
+// Nearly the root of x, and nearly always the nearest float.
+fn estimate(b: u64) -> f64
+    requires { ⌜ b < 0x7ff0_0000_0000_0000 ⌝ }
+    ensures { λ r. ⌜ r ≡ Estimate.estimate b ⌝ }
+{
+    let x = f64::from_bits(b);
+    let y = inverse_root(b);
+    corrected(x, y, leading_digits(x * y))
+}
+
+// Its pattern, 0 for a NaN.
+fn estimate_bits(b: u64) -> u64
+    requires { ⌜ b < 0x7ff0_0000_0000_0000 ⌝ }
+    ensures { λ r. ⌜ r ≡ Estimate.estimateBits b ⌝ }
+{
+    let r = estimate(b);
+    if r != r {
+        return 0;
+    }
+    f64::to_bits(r)
+}
+
+// The whole number nearest to the root of m * 2^52, for any m: it is from r on and below r + w, and
+// each of 52 turns halves w, from 2^52 down to 1.
+fn near_root(m: u64) -> u64
+    requires { ⌜ Scaled m ⌝ }
+    ensures { λ r. ⌜ Digits r ⌝ }
+    ensures { λ r. ⌜ NearRoot (m * 2 ^ 52) r ⌝ }
+{
+    let mut r = 0x10_0000_0000_0000u64;
+    let mut w = 0x10_0000_0000_0000u64;
+    for i in 0..52usize {
+        w = w / 2;
+        if pronic(r + w - 1).high < m {
+            r = r + w;
+        }
+    }
+    r
+}
+
+// The root of a pattern that is finite and above zero, as a pattern, digit by digit.
+fn exact_root_bits(b: u64) -> u64
+    requires { ⌜ (0 < b) × (b < 0x7ff0_0000_0000_0000) ⌝ }
+    ensures { λ r. ⌜ r < 0x7ff0_0000_0000_0000 ⌝ }
+    ensures { λ r. ⌜ r ≡ toBits binary64 (Spec.sqrt (ofBits binary64 b)) ⌝ }
+{
+    let t = binary64::digits(b);
+    let z = binary64::shift(t);
+    let d = binary64::place(b) + 52 - z;
+    let r = near_root((t << z) << (d % 2));
+    (d / 2 + 485) * 0x10_0000_0000_0000 + r
+}
+
+// The same: the estimate for a normal number, if it passes the test.
+fn root_bits(b: u64) -> u64
+    requires { ⌜ (0 < b) × (b < 0x7ff0_0000_0000_0000) ⌝ }
+    ensures { λ r. ⌜ r < 0x7ff0_0000_0000_0000 ⌝ }
+    ensures { λ r. ⌜ r ≡ toBits binary64 (Spec.sqrt (ofBits binary64 b)) ⌝ }
+{
+    if b >= 0x10_0000_0000_0000 {
+        let c = estimate_bits(b);
+        if is_root(b, c) {
+            return c;
+        }
+    }
+    exact_root_bits(b)
+}
+
+// The root of x: a NaN for a NaN and for what is below zero, and x itself for a zero and for the
+// positive infinity.
+pub fn sqrt(x: f64) -> f64
+    ensures { λ r. ⌜ r ≡ Spec.sqrt x ⌝ }
+{
+    if x != x {
+        return x;
+    }
+    let b = f64::to_bits(x);
+    if b == 0 {
+        return x;
+    }
+    if b < 0x7ff0_0000_0000_0000 {
+        return f64::from_bits(root_bits(b));
+    }
+    if b == 0x7ff0_0000_0000_0000 {
+        return x;
+    }
+    if b == 0x8000_0000_0000_0000 {
+        return x;
+    }
+    0.0 / 0.0
+}
