@@ -1,0 +1,3 @@
+pub mod CurrentDensity
+pub mod QuadraturePoints
+pub mod Identity

@@ -1,0 +1,48 @@
+-- No panel below `i` has passed the test; the first that does decides, and none does at the end.
+use mathlib.Core.Path.{_≡_, sym, ap, _∙_}
+use mathlib.Core.Bool.{false}
+use mathlib.Core.List.{List, []}
+use Prim.Native.Nat.{ℕ, _≤_, _<_, _-_}
+use native.Mathlib.Omega.{arith}
+use borrow.Author.Count.{below-none, below-more}
+use borrow.Author.Needs.{needs}
+use denote.Ref.{now}
+use lib.ListN.{length}
+use Rattle.mesh.specs.Counting.{three, some-at, none-below}
+use Rattle.mesh.specs.Mesh.{meshOf, triangleIndices, missesNode}
+use Rattle.mesh.proofs.some_misses_node.Statement.{statement}
+use Rattle.mesh.proofs.some_misses_node.Tie as tie
+
+abbrev Inv-loop : tie.InvT-loop
+Inv-loop n t0 t1 t2 i₀ i = (i ≤ length t0) × ((k : ℕ) → k < i → missesNode n (triangleIndices (meshOf [] [] [] t0 t1 t2) k) ≡ false)
+
+abbrev μ-loop : tie.MeasureT-loop
+μ-loop n t0 t1 t2 i₀ i = length t0 - i
+
+loop-holds : tie.Need-loop-holds Inv-loop μ-loop
+loop-holds c = (omega arith, below-none _)
+
+returns : tie.Need-returns Inv-loop μ-loop
+returns c =
+    let a = c .before .before .before .before .before .before .before .before .args in
+    let l = c .before .before .before .before .loop in
+    let e = c .before .misses-node .ensures ∙ ap (λ (v : List ℕ). missesNode (a .n) (three v)) (c .before .before .triangle-indices .ensures) in
+    sym (some-at (λ (i : ℕ). missesNode (a .n) (triangleIndices (meshOf [] [] [] (now (a .t0)) (now (a .t1)) (now (a .t2))) i)) (length (now (a .t0))) (l .i) (omega arith) (sym e ∙ c .if1 .taken))
+
+loop-again : tie.Need-loop-again Inv-loop μ-loop
+loop-again c =
+    let a = c .before .before .before .before .before .before .before .before .args in
+    let l = c .before .before .before .before .loop in
+    let e = c .before .misses-node .ensures ∙ ap (λ (v : List ℕ). missesNode (a .n) (three v)) (c .before .before .triangle-indices .ensures) in
+    (search needs, below-more _ _ (l .inv .1) (sym e ∙ c .if1 .left))
+
+returns-2 : tie.Need-returns-2 Inv-loop μ-loop
+returns-2 c =
+    let a = c .before .before .before .before .before .args in
+    let l = c .before .loop in
+    let e : l .i ≡ length (now (a .t0)) = omega arith in
+    sym (none-below (λ (i : ℕ). missesNode (a .n) (triangleIndices (meshOf [] [] [] (now (a .t0)) (now (a .t1)) (now (a .t2))) i)) (length (now (a .t0))) (rw e at (l .inv .1)))
+
+pub some-misses-node-spec : {M : Type 1} → statement M
+some-misses-node-spec =
+    tie.close (tie.spec Inv-loop μ-loop loop-holds (search needs) (search needs) returns (search needs) (search needs) loop-again returns-2)

@@ -1,0 +1,5 @@
+pub mod Refusal
+pub mod Counting
+pub mod Filling
+pub mod Mesh
+pub mod Conditions

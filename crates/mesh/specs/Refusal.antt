@@ -1,0 +1,149 @@
+-- Document 01's table of numbers, and how a call's answer is put together: a list of checks in document 01's order, of which the first that applies gives its number, and 0 if none does.
+-- The laws say for any such list, whatever its length, when the answer is one of its numbers and when it is 0. Assumes nothing.
+use mathlib.Core.Path.{_≡_, refl, sym, subst}
+use mathlib.Core.Logic.{_↔_}
+use mathlib.Core.Bool.{Bool, true, false, not, _&&_, cond}
+use mathlib.Core.List.{List, [], _∷_, _++_}
+use Prim.Native.Nat.{ℕ}
+use borrow.Author.Tests.{ne-eqb}
+use lib.Dec.{T, eqb, eqb-refl, T-not}
+use lib.Ieee.Fits.{and-l, and-r}
+
+-- ---- the numbers, each with the paper's word for it
+abbrev pub nodeColumns : ℕ
+nodeColumns = 1
+
+abbrev pub panelColumns : ℕ
+panelColumns = 2
+
+abbrev pub missingNode : ℕ
+missingNode = 3
+
+abbrev pub zeroArea : ℕ
+zeroArea = 4
+
+abbrev pub nodalValues : ℕ
+nodalValues = 5
+
+abbrev pub outputLength : ℕ
+outputLength = 6
+
+abbrev pub matrixLength : ℕ
+matrixLength = 7
+
+abbrev pub coefficients : ℕ
+coefficients = 8
+
+abbrev pub mapLength : ℕ
+mapLength = 9
+
+abbrev pub fluxLength : ℕ
+fluxLength = 10
+
+abbrev pub tooLarge : ℕ
+tooLarge = 11
+
+abbrev pub noSuchChoice : ℕ
+noSuchChoice = 12
+
+abbrev pub noSuchNode : ℕ
+noSuchNode = 13
+
+abbrev pub fileMark : ℕ
+fileMark = 14
+
+abbrev pub fileLength : ℕ
+fileLength = 15
+
+abbrev pub displayRange : ℕ
+displayRange = 16
+
+-- ---- an answer
+-- one line of the table: its number, and whether it applies
+pub record Check : Type 0 where
+  pub number : ℕ
+  pub applies : Bool
+
+abbrev pub check : ℕ → Bool → Check
+check k t = record { number = k; applies = t }
+
+-- the number of the first check that applies, 0 if none does
+unfoldable pub first : List Check → ℕ
+first [] = 0
+first (c ∷ cs) = cond (c .applies) (c .number) (first cs)
+
+-- what a lent buffer holds after a call that answered r: what is due, or on a refusal what it held
+unfoldable pub after : {A : Type 0} → ℕ → List A → List A → List A
+after r due held = cond (eqb r 0) due held
+
+-- none of the checks applies
+abbrev pub Clear : List Check → Type 0
+Clear [] = Unit
+Clear (c ∷ cs) = (c .applies ≡ false) × Clear cs
+
+-- no check has the number k; at 0: every one gives a number of the table
+abbrev pub lacks : ℕ → List Check → Bool
+lacks k [] = true
+lacks k (c ∷ cs) = not (eqb (c .number) k) && lacks k cs
+
+-- ---- laws
+-- a check with another number than the answer's did not apply
+other : (c : Check) (cs : List Check) (k : ℕ) → T (not (eqb (c .number) k)) → cond (c .applies) (c .number) (first cs) ≡ k → (c .applies ≡ false) × (first cs ≡ k)
+other c cs k n e = go (c .applies) refl e
+  where
+    go : (t : Bool) → c .applies ≡ t → cond t (c .number) (first cs) ≡ k → (c .applies ≡ false) × (first cs ≡ k)
+    go true a g = absurd (T-not (eqb (c .number) k) n (subst (λ (x : ℕ). T (eqb x k)) (sym g) (eqb-refl k)))
+    go false a g = (a, g)
+
+-- the answer is 0 exactly if no check applies
+pub none-applies : (cs : List Check) → T (lacks 0 cs) → (first cs ≡ 0) ↔ Clear cs
+unfolding first
+none-applies [] n = (λ e. tt, λ h. refl)
+none-applies (c ∷ cs) n =
+    let w = none-applies cs (and-r (not (eqb (c .number) 0)) (lacks 0 cs) n) in
+    let o = other c cs 0 (and-l (not (eqb (c .number) 0)) (lacks 0 cs) n) in
+    (λ e. (o e .0, w .0 (o e .1)), λ h. rw (h .0) (w .1 (h .1)))
+
+-- an answer that no check has is 0
+lacking : (k : ℕ) (cs : List Check) → T (lacks k cs) → first cs ≡ k → k ≡ 0
+unfolding first
+lacking k [] n e = sym e
+lacking k (c ∷ cs) n e = lacking k cs (and-r (not (eqb (c .number) k)) (lacks k cs) n) (other c cs k (and-l (not (eqb (c .number) k)) (lacks k cs) n) e .1)
+
+-- the answer is k exactly if k's check applies and none before it does
+pub applies-first : (before : List Check) (k : ℕ) (t : Bool) (after : List Check) → T (not (eqb k 0)) → T (lacks k before) → T (lacks k after)
+    → (first (before ++ check k t ∷ after) ≡ k) ↔ (Clear before × (t ≡ true))
+unfolding first
+applies-first [] k t after z n n' = (λ e. (tt, go t e), λ h. rw (h .1))
+  where
+    go : (t : Bool) → cond t k (first after) ≡ k → t ≡ true
+    go true e = refl
+    go false e = absurd (T-not (eqb k 0) z (subst (λ (x : ℕ). T (eqb k x)) (lacking k after n' e) (eqb-refl k)))
+applies-first (c ∷ cs) k t after z n n' =
+    let w = applies-first cs k t after z (and-r (not (eqb (c .number) k)) (lacks k cs) n) n' in
+    let o = other c (cs ++ check k t ∷ after) k (and-l (not (eqb (c .number) k)) (lacks k cs) n) in
+    (λ e. let v = w .0 (o e .1) in ((o e .0, v .0), v .1), λ h. rw (h .0 .0) (w .1 (h .0 .1, h .1)))
+
+-- ---- checks in two parts: the second part decides once the first is clear
+pub first-passed : (cs ds : List Check) → Clear cs → first (cs ++ ds) ≡ first ds
+unfolding first
+first-passed [] ds h = refl
+first-passed (c ∷ cs) ds h = rw (h .0) (first-passed cs ds (h .1))
+
+pub first-stopped : (cs ds : List Check) → (first cs ≡ 0 → ⊥) → first (cs ++ ds) ≡ first cs
+unfolding first
+first-stopped [] ds h = absurd (h refl)
+first-stopped (c ∷ cs) ds h = go (c .applies) h (first-stopped cs ds)
+  where
+    go : (t : Bool) → (cond t (c .number) (first cs) ≡ 0 → ⊥) → ((first cs ≡ 0 → ⊥) → first (cs ++ ds) ≡ first cs) → cond t (c .number) (first (cs ++ ds)) ≡ cond t (c .number) (first cs)
+    go true g f = refl
+    go false g f = f g
+
+-- ---- what a call leaves
+pub after-done : {A : Type 0} (r : ℕ) (due held : List A) → r ≡ 0 → after r due held ≡ due
+unfolding after
+after-done r due held e = rw e
+
+pub after-refused : {A : Type 0} (r : ℕ) (due held : List A) → (r ≡ 0 → ⊥) → after r due held ≡ held
+unfolding after
+after-refused r due held n = rw (ne-eqb r 0 n)

@@ -1,0 +1,16 @@
+-- The nine reads are the definition.
+use mathlib.Core.Path.{refl}
+use Rattle.potential.specs.Potential as Spec
+use borrow.Author.Needs.{needs}
+use Rattle.potential.proofs.nine.Statement.{statement}
+use Rattle.potential.proofs.nine.Tie as tie
+
+returns : tie.Need-returns
+unfolding Spec.nine
+returns c = refl
+
+pub nine-spec : {M : Type 1} → statement M
+nine-spec =
+    tie.close
+    (tie.spec (search needs) (search needs) (search needs) (search needs) (search needs) (search needs)
+    (search needs) (search needs) (search needs) returns)

@@ -1,0 +1,3 @@
+pub mod Mapping
+pub mod Quadrature
+pub mod Tri3

@@ -1,0 +1,92 @@
+// quadrature.rs: Dunavant's rules on the reference triangle. A row is [weight, u, v]; the weights of a rule sum to about 1.
+ghost use mathlib.Core.Path.{_≡_};
+ghost use Prim.Native.Nat.{_<_};
+ghost use Rattle.tri.specs.Quadrature as Spec;
+
+const TABLE_DUNAVANT_1: [[f64; 3]; 1] = [[1.0, 1.0 / 3.0, 1.0 / 3.0]];
+
+const TABLE_DUNAVANT_2: [[f64; 3]; 3] = [
+    [1.0 / 3.0, 1.0 / 6.0, 1.0 / 6.0],
+    [1.0 / 3.0, 2.0 / 3.0, 1.0 / 6.0],
+    [1.0 / 3.0, 1.0 / 6.0, 2.0 / 3.0],
+];
+
+const TABLE_DUNAVANT_3: [[f64; 3]; 4] = [
+    [-27.0 / 48.0, 1.0 / 3.0, 1.0 / 3.0],
+    [25.0 / 48.0, 0.2, 0.2],
+    [25.0 / 48.0, 0.6, 0.2],
+    [25.0 / 48.0, 0.2, 0.6],
+];
+
+const TABLE_DUNAVANT_4: [[f64; 3]; 6] = [
+    [0.223381589678011, 0.445948490915965, 0.445948490915965],
+    [0.223381589678011, 0.108103018168070, 0.445948490915965],
+    [0.223381589678011, 0.445948490915965, 0.108103018168070],
+    [0.109951743655322, 0.091576213509771, 0.091576213509771],
+    [0.109951743655322, 0.816847572980459, 0.091576213509771],
+    [0.109951743655322, 0.091576213509771, 0.816847572980459],
+];
+
+const TABLE_DUNAVANT_5: [[f64; 3]; 7] = [
+    [0.225000000000000, 0.333333333333333, 0.333333333333333],
+    [0.132394152788506, 0.470142064105115, 0.470142064105115],
+    [0.132394152788506, 0.059715871789770, 0.470142064105115],
+    [0.132394152788506, 0.470142064105115, 0.059715871789770],
+    [0.125939180544828, 0.101286507323456, 0.101286507323456],
+    [0.125939180544828, 0.797426985353087, 0.101286507323456],
+    [0.125939180544828, 0.101286507323456, 0.797426985353087],
+];
+
+pub enum QuadratureKind {
+    Dunavant1,
+    Dunavant2,
+    Dunavant3,
+    Dunavant4,
+    Dunavant5,
+}
+
+// What a rule's number stands for.
+pub enum Rule {
+    Known(QuadratureKind),
+    Unknown,
+}
+
+// The rule of document 01's number, 1 to 5.
+pub fn quadrature_rule(number: u32) -> Rule
+    ensures { λ r. ⌜ r ≡ Spec.quadratureRule number ⌝ }
+{
+    match number {
+        1 => Rule::Known(QuadratureKind::Dunavant1),
+        2 => Rule::Known(QuadratureKind::Dunavant2),
+        3 => Rule::Known(QuadratureKind::Dunavant3),
+        4 => Rule::Known(QuadratureKind::Dunavant4),
+        5 => Rule::Known(QuadratureKind::Dunavant5),
+        _ => Rule::Unknown,
+    }
+}
+
+pub fn quadrature_count(kind: QuadratureKind) -> usize
+    ensures { λ r. ⌜ r ≡ Spec.quadratureCount kind ⌝ }
+{
+    match kind {
+        QuadratureKind::Dunavant1 => 1,
+        QuadratureKind::Dunavant2 => 3,
+        QuadratureKind::Dunavant3 => 4,
+        QuadratureKind::Dunavant4 => 6,
+        QuadratureKind::Dunavant5 => 7,
+    }
+}
+
+// Row k of the rule's table.
+pub fn quadrature_row(kind: QuadratureKind, k: usize) -> [f64; 3]
+    requires { ⌜ k < Spec.quadratureCount kind ⌝ }
+    ensures { λ r. ⌜ r ≡ Spec.quadratureRow kind k ⌝ }
+{
+    match kind {
+        QuadratureKind::Dunavant1 => TABLE_DUNAVANT_1[k],
+        QuadratureKind::Dunavant2 => TABLE_DUNAVANT_2[k],
+        QuadratureKind::Dunavant3 => TABLE_DUNAVANT_3[k],
+        QuadratureKind::Dunavant4 => TABLE_DUNAVANT_4[k],
+        QuadratureKind::Dunavant5 => TABLE_DUNAVANT_5[k],
+    }
+}
