@@ -1,0 +1,17 @@
+-- The edge by its contract, and the halves at it.
+use borrow.Author.Needs.{needs}
+use Rattle.coupling.specs.Bisection as Spec
+use Rattle.coupling.proofs.bisection.longest_edge_bisection.Statement.{statement}
+use Rattle.coupling.proofs.bisection.longest_edge_bisection.Tie as tie
+
+returns : tie.Need-returns
+unfolding Spec.longestEdgeBisection
+returns c =
+    let b1 = c .before in let b2 = b1 .before in let b3 = b2 .before in let b4 = b3 .before in
+    rw (← b4 .longest-edge .ensures .0, ← c .halves .ensures)
+
+pub longest-edge-bisection-spec : {M : Type 1} → statement M
+longest-edge-bisection-spec =
+    tie.close
+    (tie.spec (search needs) (search needs) (search needs) (search needs) (search needs) (search needs)
+    (search needs) (search needs) (search needs) (search needs) returns)

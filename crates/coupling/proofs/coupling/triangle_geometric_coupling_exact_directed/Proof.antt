@@ -1,0 +1,41 @@
+-- As in triangle_scalar_potential_regular: the sum over the first k rows, with one row more a turn.
+use mathlib.Core.Path.{_≡_, refl}
+use Prim.Native.Nat.{_≤_, _-_}
+use native.Mathlib.Omega.{arith}
+use borrow.Author.Needs.{needs}
+use Rattle.potential.specs.Potential.{scalarPotential}
+use Rattle.coupling.specs.Coupling as Spec
+use Rattle.coupling.proofs.coupling.triangle_geometric_coupling_exact_directed.Statement.{statement}
+use Rattle.coupling.proofs.coupling.triangle_geometric_coupling_exact_directed.Tie as tie
+
+abbrev Inv-loop : tie.InvT-loop
+Inv-loop source target kind target-area count out₀ k₀ out k = (k ≤ count) × (out ≡ Spec.rowsTo kind (Spec.integralRow target target-area (scalarPotential source)) k)
+
+abbrev μ-loop : tie.MeasureT-loop
+μ-loop source target kind target-area count out₀ k₀ out k = count - k
+
+loop-holds : tie.Need-loop-holds Inv-loop μ-loop
+unfolding Spec.rowsTo
+loop-holds c = (omega arith, refl)
+
+quadrature-row-requires : tie.Need-quadrature-row-requires Inv-loop μ-loop
+quadrature-row-requires c κs = rw (← c .before .before .quadrature-count .ensures) (c .loop-test .taken)
+
+loop-again : tie.Need-loop-again Inv-loop μ-loop
+loop-again c =
+    let l = c .before .before .before .loop in
+    (search needs, rw (Spec.rows-more, ← l .inv .1, c .exact-row .ensures, c .before .quadrature-row .ensures))
+
+returns : tie.Need-returns Inv-loop μ-loop
+unfolding Spec.triangleGeometricCouplingExactDirected
+returns c =
+    let l = c .before .loop in
+    let n = c .before .before .quadrature-count in
+    let e : l .k ≡ n .result = omega arith in
+    rw (l .inv .1, e, n .ensures, c .before .before .before .area .ensures)
+
+pub triangle-geometric-coupling-exact-directed-spec : {M : Type 1} → statement M
+triangle-geometric-coupling-exact-directed-spec =
+    tie.close
+    (tie.spec Inv-loop μ-loop (search needs) (search needs) loop-holds quadrature-row-requires (search needs)
+    (search needs) (search needs) loop-again returns)

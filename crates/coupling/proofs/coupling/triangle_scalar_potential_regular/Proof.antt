@@ -1,0 +1,40 @@
+-- After k turns the sum is the definition's over the first k rows; a turn adds the next row, by the contract of its part.
+use mathlib.Core.Path.{_≡_, refl}
+use Prim.Native.Nat.{_≤_, _-_}
+use native.Mathlib.Omega.{arith}
+use borrow.Author.Needs.{needs}
+use Rattle.coupling.specs.Coupling as Spec
+use Rattle.coupling.proofs.coupling.triangle_scalar_potential_regular.Statement.{statement}
+use Rattle.coupling.proofs.coupling.triangle_scalar_potential_regular.Tie as tie
+
+abbrev Inv-loop : tie.InvT-loop
+Inv-loop kind source obs source-area count out₀ k₀ out k = (k ≤ count) × (out ≡ Spec.rowsTo kind (Spec.potentialRow source source-area obs) k)
+
+abbrev μ-loop : tie.MeasureT-loop
+μ-loop kind source obs source-area count out₀ k₀ out k = count - k
+
+loop-holds : tie.Need-loop-holds Inv-loop μ-loop
+unfolding Spec.rowsTo
+loop-holds c = (omega arith, refl)
+
+quadrature-row-requires : tie.Need-quadrature-row-requires Inv-loop μ-loop
+quadrature-row-requires c κs = rw (← c .before .before .quadrature-count .ensures) (c .loop-test .taken)
+
+loop-again : tie.Need-loop-again Inv-loop μ-loop
+loop-again c =
+    let l = c .before .before .before .loop in
+    (search needs, rw (Spec.rows-more, ← l .inv .1, c .potential-row .ensures, c .before .quadrature-row .ensures))
+
+returns : tie.Need-returns Inv-loop μ-loop
+unfolding Spec.triangleScalarPotentialRegular
+returns c =
+    let l = c .before .loop in
+    let n = c .before .before .quadrature-count in
+    let e : l .k ≡ n .result = omega arith in
+    rw (l .inv .1, e, n .ensures, c .before .before .before .area .ensures)
+
+pub triangle-scalar-potential-regular-spec : {M : Type 1} → statement M
+triangle-scalar-potential-regular-spec =
+    tie.close
+    (tie.spec Inv-loop μ-loop (search needs) (search needs) loop-holds quadrature-row-requires (search needs)
+    (search needs) (search needs) loop-again returns)

@@ -1,0 +1,17 @@
+-- The two calls of max, by its contract.
+use borrow.Author.Needs.{needs}
+use Rattle.coupling.specs.Distance as Spec
+use Rattle.coupling.proofs.distance.highest.Statement.{statement}
+use Rattle.coupling.proofs.distance.highest.Tie as tie
+
+returns : tie.Need-returns
+unfolding Spec.highest
+returns c =
+    let b1 = c .before in let b2 = b1 .before in
+    rw (c .max2 .ensures, b2 .max .ensures)
+
+pub highest-spec : {M : Type 1} → statement M
+highest-spec =
+    tie.close
+    (tie.spec (search needs) (search needs) (search needs) (search needs) (search needs) (search needs)
+    (search needs) (search needs) (search needs) (search needs) (search needs) returns)

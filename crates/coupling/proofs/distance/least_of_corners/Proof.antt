@@ -1,0 +1,37 @@
+-- Three distances and three least values, by their contracts, the last call first.
+use borrow.Author.Needs.{needs}
+use Rattle.coupling.specs.Distance as Spec
+use Rattle.coupling.proofs.distance.least_of_corners.Statement.{statement}
+use Rattle.coupling.proofs.distance.least_of_corners.Tie as tie
+
+array-copy-out-point-triangle-distance-squared :
+    tie.Need-array-copy-out-point-triangle-distance-squared
+array-copy-out-point-triangle-distance-squared c = search needs
+
+array-copy-out-point-triangle-distance-squared-2 :
+    tie.Need-array-copy-out-point-triangle-distance-squared-2
+array-copy-out-point-triangle-distance-squared-2 c = search needs
+
+array-copy-out-point-triangle-distance-squared-3 :
+    tie.Need-array-copy-out-point-triangle-distance-squared-3
+array-copy-out-point-triangle-distance-squared-3 c = search needs
+
+returns : tie.Need-returns
+unfolding Spec.leastOfCorners
+returns c =
+    let b1 = c .before in let b2 = b1 .before in let b3 = b2 .before in let b4 = b3 .before in
+    let b5 = b4 .before in let b6 = b5 .before in let b7 = b6 .before in
+    rw (
+      c .min3 .ensures,
+      b1 .point-triangle-distance-squared3 .ensures,
+      b3 .min2 .ensures,
+      b4 .point-triangle-distance-squared2 .ensures,
+      b6 .min .ensures,
+      b7 .point-triangle-distance-squared .ensures,
+    )
+
+pub least-of-corners-spec : {M : Type 1} → statement M
+least-of-corners-spec =
+    tie.close
+    (tie.spec (search needs) (search needs) (search needs) (search needs) (search needs) (search needs)
+    (search needs) (search needs) (search needs) returns)

@@ -1,0 +1,17 @@
+-- The two calls of min, by its contract.
+use borrow.Author.Needs.{needs}
+use Rattle.coupling.specs.Distance as Spec
+use Rattle.coupling.proofs.distance.lowest.Statement.{statement}
+use Rattle.coupling.proofs.distance.lowest.Tie as tie
+
+returns : tie.Need-returns
+unfolding Spec.lowest
+returns c =
+    let b1 = c .before in let b2 = b1 .before in
+    rw (c .min2 .ensures, b2 .min .ensures)
+
+pub lowest-spec : {M : Type 1} → statement M
+lowest-spec =
+    tie.close
+    (tie.spec (search needs) (search needs) (search needs) (search needs) (search needs) (search needs)
+    (search needs) (search needs) (search needs) (search needs) (search needs) returns)

@@ -1,0 +1,16 @@
+-- The closest point and its distance, by their contracts.
+use borrow.Author.Needs.{needs}
+use Rattle.coupling.specs.Distance as Spec
+use Rattle.coupling.proofs.distance.point_triangle_distance_squared.Statement.{statement}
+use Rattle.coupling.proofs.distance.point_triangle_distance_squared.Tie as tie
+
+returns : tie.Need-returns
+unfolding Spec.pointTriangleDistanceSquared
+returns c =
+    let b1 = c .before in
+    rw (c .distance-squared .ensures, b1 .closest-point .ensures)
+
+pub point-triangle-distance-squared-spec : {M : Type 1} → statement M
+point-triangle-distance-squared-spec =
+    tie.close
+    (tie.spec (search needs) (search needs) returns)

@@ -1,0 +1,16 @@
+-- The gaps along three axes, by their contract.
+use borrow.Author.Needs.{needs}
+use Rattle.coupling.specs.Distance as Spec
+use Rattle.coupling.proofs.distance.triangle_aabb_distance_squared.Statement.{statement}
+use Rattle.coupling.proofs.distance.triangle_aabb_distance_squared.Tie as tie
+
+returns : tie.Need-returns
+unfolding Spec.triangleAabbDistanceSquared
+returns c =
+    let b1 = c .before in let b2 = b1 .before in
+    rw (c .gap3 .ensures, b1 .gap2 .ensures, b2 .gap .ensures)
+
+pub triangle-aabb-distance-squared-spec : {M : Type 1} → statement M
+triangle-aabb-distance-squared-spec =
+    tie.close
+    (tie.spec (search needs) (search needs) (search needs) returns)

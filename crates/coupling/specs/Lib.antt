@@ -1,0 +1,5 @@
+pub mod Distance
+pub mod Bisection
+pub mod Coupling
+pub mod Block
+pub mod Calls

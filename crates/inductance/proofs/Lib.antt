@@ -1,0 +1,7 @@
+pub mod Within
+pub mod Nest
+pub mod Ready
+pub mod Rules
+pub mod Numbers
+pub mod Change
+pub mod TwoPanels

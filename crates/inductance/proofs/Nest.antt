@@ -1,0 +1,117 @@
+-- The loops over sources and targets, a turn at a time. Each keeps this: what is left to add, added to the matrix as it stands, makes the same as all of it added at the start.
+use mathlib.Core.Path.{_≡_, sym, ap, _∙_}
+use mathlib.Core.Bool.{Bool, false, _||_}
+use mathlib.Core.List.{List, [], _++_}
+use Prim.Native.Nat.{ℕ, suc, _+_, _*_, _-_, _<_, _≤_}
+use native.Mathlib.Numerals.{add-one}
+use native.Mathlib.Omega.{arith}
+use lib.Dec.{eqb}
+use lib.ListN.{length}
+use lib.Ieee.{Float}
+use Rattle.mesh.specs.Counting.{anyOf, three}
+use Rattle.mesh.specs.Mesh.{Mesh, ntri, triangleIndices, triangleNodes}
+use Rattle.scatter.specs.Entries.{Entry, blockEntries, withTransposed}
+use Rattle.scatter.specs.Renewal.{scatter, renewing, renewed, Within}
+use Rattle.scatter.proofs.Cells.{length-renewed}
+use Rattle.scatter.proofs.Steps.{renewing-append, length-renewing}
+use Rattle.scatter.proofs.Misses.{block-skipped}
+use Rattle.scatter.proofs.Clearing.{renew-all}
+use Rattle.binary64.specs.Binary64.{plusZero}
+use Rattle.inductance.specs.Matrix.{Block, pairEntries, targetEntries, sourceEntries, entries, cell}
+
+module _ (r : ℕ → Bool) (n : ℕ) (f : Block) (m : Mesh) where
+  -- ---- one pair
+  pub pair-added : (i j : ℕ) (s t : List ℕ) (b out : List Float) {new : List Float}
+      → s ≡ triangleIndices m i
+      → t ≡ triangleIndices m j
+      → b ≡ f (triangleNodes m i) (triangleNodes m j)
+      → new ≡ renewing r n out (withTransposed (eqb i j) (blockEntries (three s) (three t) b 0))
+      → new ≡ renewing r n out (pairEntries f m i j)
+  unfolding pairEntries
+  pair-added i j s t b out p q e w = w ∙ rw (e, p, q)
+
+  -- u and v: whether a node of the source, of the target, is in r
+  pub pair-skipped : (i j : ℕ) (s t : List ℕ) (u v : Bool) (out : List Float)
+      → s ≡ triangleIndices m i
+      → t ≡ triangleIndices m j
+      → u ≡ anyOf r (three s)
+      → v ≡ anyOf r (three t)
+      → (u || v) ≡ false
+      → out ≡ renewing r n out (pairEntries f m i j)
+  unfolding pairEntries
+  pair-skipped i j s t u v out p q a b h =
+      sym (block-skipped r n (eqb i j) (triangleIndices m i) (triangleIndices m j) (f (triangleNodes m i) (triangleNodes m j)) out (rw (a, b, p, q) at h))
+
+  -- ---- a turn: the first part of what is left has been added
+  turn : (es fs gs : List Entry) {new goal : List Float} (out : List Float)
+      → gs ≡ es ++ fs → new ≡ renewing r n out es → renewing r n out gs ≡ goal → renewing r n new fs ≡ goal
+  turn es fs gs out s e h =
+      ap (λ (l : List Float). renewing r n l fs) e
+      ∙ sym (renewing-append r n out es fs)
+      ∙ ap (λ (l : List Entry). renewing r n out l) (sym s)
+      ∙ h
+
+  done : (es : List Entry) {goal : List Float} (out : List Float) → es ≡ [] → renewing r n out es ≡ goal → out ≡ goal
+  unfolding renewing scatter
+  done es out s h = sym (ap (λ (l : List Entry). renewing r n out l) s) ∙ h
+
+  left : (p j : ℕ) → j < p → p - j ≡ suc (p - (j + 1))
+  left p j h = omega arith
+
+  none-left : (p j : ℕ) → p ≤ j → p - j ≡ 0
+  none-left p j h = omega arith
+
+  -- ---- targets
+  targets-step : (i j p : ℕ) → j < p → targetEntries f m i j (p - j) ≡ pairEntries f m i j ++ targetEntries f m i (j + 1) (p - (j + 1))
+  unfolding targetEntries
+  targets-step i j p h = rw (left p j h, add-one j)
+
+  targets-none : (i j p : ℕ) → p ≤ j → targetEntries f m i j (p - j) ≡ []
+  unfolding targetEntries
+  targets-none i j p h = rw (none-left p j h)
+
+  pub target-turn : (i j p : ℕ) {new goal : List Float} (out : List Float)
+      → j < p
+      → new ≡ renewing r n out (pairEntries f m i j)
+      → renewing r n out (targetEntries f m i j (p - j)) ≡ goal
+      → renewing r n new (targetEntries f m i (j + 1) (p - (j + 1))) ≡ goal
+  target-turn i j p out h = turn (pairEntries f m i j) _ _ out (targets-step i j p h)
+
+  pub target-end : (i j p : ℕ) {goal : List Float} (out : List Float) → p ≤ j → renewing r n out (targetEntries f m i j (p - j)) ≡ goal → out ≡ goal
+  target-end i j p out h = done _ out (targets-none i j p h)
+
+  -- ---- sources
+  sources-step : (i p : ℕ) → i < p → sourceEntries f m i (p - i) ≡ targetEntries f m i i (ntri m - i) ++ sourceEntries f m (i + 1) (p - (i + 1))
+  unfolding sourceEntries
+  sources-step i p h = rw (left p i h, add-one i)
+
+  sources-none : (i p : ℕ) → p ≤ i → sourceEntries f m i (p - i) ≡ []
+  unfolding sourceEntries
+  sources-none i p h = rw (none-left p i h)
+
+  pub source-turn : (i p : ℕ) {new goal : List Float} (out : List Float)
+      → i < p
+      → new ≡ renewing r n out (targetEntries f m i i (ntri m - i))
+      → renewing r n out (sourceEntries f m i (p - i)) ≡ goal
+      → renewing r n new (sourceEntries f m (i + 1) (p - (i + 1))) ≡ goal
+  source-turn i p out h = turn (targetEntries f m i i (ntri m - i)) _ _ out (sources-step i p h)
+
+  pub source-end : (i p : ℕ) {goal : List Float} (out : List Float) → p ≤ i → renewing r n out (sourceEntries f m i (p - i)) ≡ goal → out ≡ goal
+  source-end i p out h = done _ out (sources-none i p h)
+
+  -- ---- the nest
+  pub nest-done : (old start new : List Float)
+      → Within n (entries f m)
+      → start ≡ renewed r (λ a b. plusZero) n old
+      → new ≡ renewing r n start (entries f m)
+      → new ≡ renewed r (cell f m) n old
+  unfolding cell
+  nest-done old start new w s e = e ∙ renew-all r n (entries f m) old start w s
+
+-- ---- lengths
+pub added-length : (r : ℕ → Bool) (n : ℕ) (es : List Entry) (old out : List Float) {new : List Float}
+    → new ≡ renewing r n out es → length out ≡ length old → length new ≡ length old
+added-length r n es old out e l = ap (λ (x : List Float). length x) e ∙ length-renewing r n out es ∙ l
+
+pub cleared-length : (r : ℕ → Bool) (n : ℕ) (old : List Float) {new : List Float} → length old ≡ n * n → new ≡ renewed r (λ a b. plusZero) n old → length new ≡ length old
+cleared-length r n old l e = ap (λ (x : List Float). length x) e ∙ length-renewed r (λ a b. plusZero) n old ∙ sym l

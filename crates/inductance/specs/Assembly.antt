@@ -1,0 +1,65 @@
+-- The call that assembles the matrix: its number, and what it leaves. Definitions only.
+use mathlib.Core.Path.{_≡_}
+use mathlib.Core.Logic.{_↔_}
+use mathlib.Core.Bool.{Bool, true, false, not}
+use mathlib.Core.List.{List, [], _∷_, _++_}
+use Prim.Native.Nat.{ℕ, _*_}
+use lib.Dec.{eqb}
+use lib.ListN.{length}
+use lib.Ieee.{Float}
+use Rattle.tri.specs.Quadrature.{quadratureRule}
+use Rattle.tri.specs.declared.quadrature.QuadratureKind.{QuadratureKind}
+use Rattle.tri.specs.declared.quadrature.Rule.{Rule}
+use Rattle.tri.specs.declared.quadrature.Rule.the-variants.{Known, Unknown}
+use Rattle.mesh.specs.Refusal.{Check, check, first, after, noSuchChoice, outputLength}
+use Rattle.mesh.specs.Mesh.{Mesh, nnode, meshChecks, meshRefusal, maxNodes, maxPanels}
+use Rattle.mesh.specs.Conditions.{NodeColumnsAlike, PanelColumnsAlike, NoneMissing, Accepted}
+use Rattle.coupling.specs.Block.{mutualInductanceBlock}
+use Rattle.coupling.specs.Calls.{NoSuchRule}
+use Rattle.scatter.specs.Renewal.{Sized}
+use Rattle.inductance.specs.Matrix.{Block, matrix}
+
+-- 12
+abbrev pub isUnknown : Rule → Bool
+isUnknown (Known kind) = false
+isUnknown Unknown = true
+
+-- the block under a rule; without a rule the call is refused and no block is asked for
+abbrev pub blockUnder : Rule → Block
+blockUnder (Known kind) = mutualInductanceBlock kind
+blockUnder Unknown = λ s t. []
+
+-- 6, after the mesh's checks: the output has not n × n numbers
+abbrev pub sizeChecks : ℕ → ℕ → List Check
+sizeChecks n size = check outputLength (not (eqb size (n * n))) ∷ []
+
+unfoldable pub sizedRefusal : Mesh → ℕ → ℕ
+sizedRefusal m size = first (meshChecks maxNodes maxPanels m ++ sizeChecks (nnode m) size)
+
+-- 12, 1, 2, 11, 3, 4, 6
+unfoldable pub matrixRefusal : Rule → Mesh → ℕ → ℕ
+matrixRefusal rule m size = first (check noSuchChoice (isUnknown rule) ∷ meshChecks maxNodes maxPanels m ++ sizeChecks (nnode m) size)
+
+-- a number is the call's exactly if its condition holds and no earlier one's; the mesh's numbers have theirs in the mesh's own `Numbered`
+pub record Numbered (number : ℕ) (m : Mesh) (size r : ℕ) : Type 0 where
+  pub is-12 : (r ≡ noSuchChoice) ↔ NoSuchRule number
+  pub of-mesh : (NoSuchRule number → ⊥) → (meshRefusal maxNodes maxPanels m ≡ 0 → ⊥) → r ≡ meshRefusal maxNodes maxPanels m
+  pub is-6 : (r ≡ outputLength) ↔ ((NoSuchRule number → ⊥) × Accepted maxNodes maxPanels m × (size ≡ nnode m * nnode m → ⊥))
+  pub is-0 : (r ≡ 0) ↔ ((NoSuchRule number → ⊥) × Accepted maxNodes maxPanels m × (size ≡ nnode m * nnode m))
+
+-- what the call answers and leaves, for a rule by its number
+pub record Assembled (number : ℕ) (m : Mesh) (out : List Float) (r : ℕ) (out' : List Float) : Type 0 where
+  pub refusal : r ≡ matrixRefusal (quadratureRule number) m (length out)
+  pub cells : out' ≡ after r (matrix (blockUnder (quadratureRule number)) m) out
+
+-- the same for a rule that there is
+pub record AssembledUnder (kind : QuadratureKind) (m : Mesh) (out : List Float) (r : ℕ) (out' : List Float) : Type 0 where
+  pub refusal : r ≡ sizedRefusal m (length out)
+  pub cells : out' ≡ after r (matrix (mutualInductanceBlock kind) m) out
+
+-- what the assembly's own functions ask: columns of one length, every index below the node count, a matrix of the nodes and a mark for each
+pub record Ready (m : Mesh) (out : List Float) (marks : List Bool) : Type 0 where
+  pub nodes-alike : NodeColumnsAlike m
+  pub panels-alike : PanelColumnsAlike m
+  pub none-missing : NoneMissing m
+  pub sized : Sized (nnode m) out marks

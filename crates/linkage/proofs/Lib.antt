@@ -1,0 +1,4 @@
+pub mod Sums
+pub mod Sizes
+pub mod Numbers
+pub mod Rows

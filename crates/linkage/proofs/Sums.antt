@@ -1,0 +1,51 @@
+-- Each running sum with one term more, and the value of an answer that is done or refused.
+use mathlib.Core.Path.{_≡_, refl, ap, _∙_}
+use mathlib.Core.Bool.{Bool, true, false, cond}
+use mathlib.Core.List.{List}
+use Prim.Native.Nat.{ℕ, _+_, _*_}
+use native.Mathlib.Numerals.{add-one}
+use borrow.Author.Tests.{ne-eqb}
+use lib.ListN.{length}
+use lib.Dec.{eqb}
+use lib.Ieee.{Float, mul, ofBits}
+use Rattle.binary64.specs.Binary64.{_⊕_, _⊗_, at, plusZero, half}
+use Rattle.linkage.specs.Answer.{valueAfter}
+use Rattle.linkage.specs.Energy.{rowAdded, rowsAdded}
+use Rattle.linkage.specs.Flux.{fluxTo, rowFlux, interactionTo}
+
+pub row-more : (l s t : List Float) (i : ℕ) (x : Float) (k : ℕ) → rowAdded l s t i x (k + 1) ≡ rowAdded l s t i x k ⊕ at s i ⊗ at l (i * length s + k) ⊗ at t k
+unfolding rowAdded
+row-more l s t i x k = rw add-one
+
+pub rows-more : (l s t : List Float) (i : ℕ) → rowsAdded l s t (i + 1) ≡ rowAdded l s t i (rowsAdded l s t i) (length s)
+unfolding rowsAdded
+rows-more l s t i = rw add-one
+
+pub flux-more : (map cs : List Float) (i k : ℕ) → fluxTo map cs i (k + 1) ≡ fluxTo map cs i k ⊕ at map (i * length cs + k) ⊗ at cs k
+unfolding fluxTo
+flux-more map cs i k = rw add-one
+
+pub interaction-more : (map s cs : List Float) (n : ℕ) → interactionTo map s cs (n + 1) ≡ interactionTo map s cs n ⊕ at s n ⊗ rowFlux map cs n
+unfolding interactionTo
+interaction-more map s cs n = rw add-one
+
+pub value-refused : (r : ℕ) (due : Float) → (r ≡ 0 → ⊥) → plusZero ≡ valueAfter r due
+unfolding valueAfter
+value-refused r due n = rw (ne-eqb r 0 n)
+
+pub value-done : (due : Float) {v : Float} → v ≡ due → v ≡ valueAfter 0 due
+unfolding valueAfter
+value-done due e = e
+
+-- half of an answer's value: zero stays zero
+half-zero : half ⊗ plusZero ≡ plusZero
+unfolding mul ofBits
+half-zero = refl
+
+pub value-halved : (r : ℕ) (due : Float) {v : Float} → v ≡ valueAfter r due → half ⊗ v ≡ valueAfter r (half ⊗ due)
+unfolding valueAfter
+value-halved r due e = ap (λ (x : Float). half ⊗ x) e ∙ go (eqb r 0)
+  where
+    go : (t : Bool) → half ⊗ cond t due plusZero ≡ cond t (half ⊗ due) plusZero
+    go true = refl
+    go false = half-zero

@@ -1,0 +1,27 @@
+-- Each exit follows the list of checks.
+use Rattle.mesh.specs.Refusal.{first}
+use Rattle.linkage.specs.Flux.{mapRefusal}
+use borrow.Author.Needs.{needs}
+use Rattle.linkage.proofs.flux.map_refusal.Statement.{statement}
+use Rattle.linkage.proofs.flux.map_refusal.Tie as tie
+
+returns : tie.Need-returns
+unfolding mapRefusal first
+returns c = rw (← c .before .lacks-sources .ensures, c .if1 .taken)
+
+returns-2 : tie.Need-returns-2
+unfolding mapRefusal first
+returns-2 c = rw (← c .before .before .before .lacks-sources .ensures, c .before .before .if1 .left, ← c .before .broken-rows .ensures, c .if2 .taken)
+
+returns-3 : tie.Need-returns-3
+unfolding mapRefusal first
+returns-3 c = rw (← c .before .before .before .before .before .lacks-sources .ensures, c .before .before .before .before .if1 .left, ← c .before .before .before .broken-rows .ensures, c .before .before .if2 .left, ← c .before .rows-differ .ensures, c .if3 .taken)
+
+returns-4 : tie.Need-returns-4
+unfolding mapRefusal first
+returns-4 c = rw (← c .before .before .before .before .before .lacks-sources .ensures, c .before .before .before .before .if1 .left, ← c .before .before .before .broken-rows .ensures, c .before .before .if2 .left, ← c .before .rows-differ .ensures, c .if3 .left)
+
+pub map-refusal-spec : {M : Type 1} → statement M
+map-refusal-spec =
+    tie.close
+    (tie.spec (search needs) returns (search needs) returns-2 (search needs) returns-3 returns-4)

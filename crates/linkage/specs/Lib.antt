@@ -1,0 +1,5 @@
+pub mod Answer
+pub mod Energy
+pub mod Flux
+pub mod Row
+pub mod Conditions

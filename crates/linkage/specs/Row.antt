@@ -1,0 +1,44 @@
+-- The row of a node in a matrix or a map, as a stretch of its numbers. Definitions only.
+use mathlib.Core.Bool.{cond}
+use mathlib.Core.List.{List, [], _∷_, _++_}
+use Prim.Native.Nat.{ℕ, _*_, _/_}
+use lib.Dec.{eqb, leb}
+use lib.ListN.{length, take, drop}
+use lib.Ieee.{Float}
+use Rattle.mesh.specs.Refusal.{Check, check, first, coefficients, mapLength, noSuchNode}
+use Rattle.linkage.specs.Energy.{matrixChecks}
+use Rattle.linkage.specs.Flux.{lacksSources, brokenRows}
+
+-- w numbers from i · w on
+abbrev pub stretch : List Float → ℕ → ℕ → List Float
+stretch m w i = take w (drop (i * w) m)
+
+-- a row, or nothing on a refusal
+unfoldable pub rowAfter : ℕ → List Float → List Float
+rowAfter r due = cond (eqb r 0) due []
+
+-- 13: the node is not below the row count
+abbrev pub nodeChecks : ℕ → ℕ → List Check
+nodeChecks rows node = check noSuchNode (leb rows node) ∷ []
+
+-- 11, 7, 13: a matrix of so many numbers, for n nodes
+unfoldable pub matrixRowRefusal : ℕ → ℕ → ℕ → ℕ
+matrixRowRefusal size n node = first (matrixChecks n size ++ nodeChecks n node)
+
+abbrev pub matrixRow : List Float → ℕ → ℕ → List Float
+matrixRow m n node = rowAfter (matrixRowRefusal (length m) n node) (stretch m n node)
+
+-- the rows of a map; without sources none
+unfoldable pub rowCount : ℕ → ℕ → ℕ
+rowCount size sources = cond (eqb sources 0) 0 (size / sources)
+
+-- 8, 9, 13: a map of so many numbers, for so many sources
+abbrev pub mapRowChecks : ℕ → ℕ → ℕ → List Check
+mapRowChecks size sources node =
+    check coefficients (lacksSources size sources 0) ∷ check mapLength (brokenRows size sources) ∷ nodeChecks (rowCount size sources) node
+
+unfoldable pub mapRowRefusal : ℕ → ℕ → ℕ → ℕ
+mapRowRefusal size sources node = first (mapRowChecks size sources node)
+
+abbrev pub mapRow : List Float → ℕ → ℕ → List Float
+mapRow m sources node = rowAfter (mapRowRefusal (length m) sources node) (stretch m sources node)

@@ -1,0 +1,80 @@
+-- The claim of the call by cases: the number stops it and nothing is written, or the move is done; and by cases on the rule, of which there may be none.
+use mathlib.Core.Path.{_≡_, refl, sym, ap, _∙_, subst}
+use mathlib.Core.List.{List}
+use Prim.Native.Nat.{ℕ, _*_}
+use native.Mathlib.Nat.{suc-ne-zero}
+use borrow.Author.Tests.{eqb-true, not-false, leb-false}
+use lib.ListN.{length}
+use lib.Ieee.{Float}
+use Rattle.tri.specs.Quadrature.{quadratureRule}
+use Rattle.tri.specs.declared.quadrature.QuadratureKind.{QuadratureKind}
+use Rattle.tri.specs.declared.quadrature.Rule.{Rule}
+use Rattle.tri.specs.declared.quadrature.Rule.the-variants.{Known, Unknown}
+use Rattle.mesh.specs.Refusal.{first, noSuchChoice}
+use Rattle.mesh.specs.Mesh.{Mesh, nnode, maxNodes, maxPanels}
+use Rattle.mesh.proofs.Refusals.{mesh-accepted}
+use Rattle.coupling.specs.Block.{mutualInductanceBlock}
+use Rattle.inductance.specs.Matrix.{cell, matrix}
+use Rattle.inductance.specs.Assembly.{blockUnder}
+use Rattle.scatter.specs.Entries.{same}
+use Rattle.scatter.specs.Renewal.{renewed}
+use Rattle.node_move.specs.Move.{moved, ring, placeChecks, placeRefusal, moveRefusal, Done, MoveClaim, MoveReady}
+
+-- a move that is done is ready
+pub ready : (m : Mesh) (old : List Float) (v : ℕ) (x y z : Float) (r : ℕ) → r ≡ placeRefusal m (length old) v x y z → r ≡ 0 → MoveReady m old v
+unfolding placeRefusal
+ready m old v x y z r e h =
+    let w = mesh-accepted maxNodes maxPanels m (placeChecks m (length old) v x y z) tt (sym e ∙ h) in
+    let a = w .0 in
+    record {
+      nodes-alike = a .nodes-alike;
+      panels-alike = a .panels-alike;
+      none-missing = a .none-missing;
+      small = a .limits .few-nodes;
+      cells = eqb-true (length old) (nnode m * nnode m) (not-false _ (w .1 .0));
+      there = leb-false (nnode m) v (w .1 .1 .0);
+    }
+
+module _ (cellOf : Mesh → ℕ → ℕ → Float) (matrixOf : Mesh → List Float) (refusal : ℕ) (m : Mesh) (old : List Float) (v : ℕ) (x y z : Float) where
+  pub claim-refused : (r : ℕ) → (r ≡ 0 → ⊥) → r ≡ refusal → MoveClaim cellOf matrixOf refusal m old v x y z r 0 m old
+  claim-refused r h e = record { number = e; refused = λ _. (refl, refl, refl); accepted = λ z. absurd (h z); fresh = λ z. absurd (h z) }
+
+  -- where a fresh matrix, renewed, is the moved mesh's
+  pub claim-done : (count : ℕ) (m′ : Mesh) (new : List Float)
+      → renewed (ring m (same v)) (cellOf (moved m v x y z)) (nnode m) (matrixOf m) ≡ matrixOf (moved m v x y z)
+      → 0 ≡ refusal
+      → Done cellOf m old v x y z count m′ new
+      → MoveClaim cellOf matrixOf refusal m old v x y z 0 count m′ new
+  claim-done count m′ new law e d = record {
+    number = e;
+    refused = λ h. absurd (h refl);
+    accepted = λ _. d;
+    fresh = λ _ h. d .cells ∙ ap (λ (l : List Float). renewed (ring m (same v)) (cellOf (moved m v x y z)) (nnode m) l) h ∙ law;
+  }
+
+-- ---- the rule
+abbrev Claim : Rule → Mesh → List Float → ℕ → Float → Float → Float → ℕ → ℕ → Mesh → List Float → Type 0
+Claim rule m old v x y z r count m′ new =
+    MoveClaim (cell (blockUnder rule)) (matrix (blockUnder rule)) (moveRefusal rule m (length old) v x y z) m old v x y z r count m′ new
+
+known : (kind : QuadratureKind) (m : Mesh) (size v : ℕ) (x y z : Float) → moveRefusal (Known kind) m size v x y z ≡ placeRefusal m size v x y z
+unfolding moveRefusal placeRefusal first
+known kind m size v x y z = refl
+
+unknown : (m : Mesh) (size v : ℕ) (x y z : Float) → noSuchChoice ≡ moveRefusal Unknown m size v x y z
+unfolding moveRefusal first
+unknown m size v x y z = refl
+
+pub claim-known : (number : ℕ) (kind : QuadratureKind) (m : Mesh) (old : List Float) (v : ℕ) (x y z : Float) (r count : ℕ) (m′ : Mesh) (new : List Float)
+    → quadratureRule number ≡ Known kind
+    → MoveClaim (cell (mutualInductanceBlock kind)) (matrix (mutualInductanceBlock kind)) (placeRefusal m (length old) v x y z) m old v x y z r count m′ new
+    → Claim (quadratureRule number) m old v x y z r count m′ new
+claim-known number kind m old v x y z r count m′ new e w =
+    subst (λ (rule : Rule). Claim rule m old v x y z r count m′ new) (sym e)
+    (record { number = w .number ∙ sym (known kind m (length old) v x y z); refused = w .refused; accepted = w .accepted; fresh = w .fresh })
+
+pub claim-unknown : (number : ℕ) (m : Mesh) (old : List Float) (v : ℕ) (x y z : Float)
+    → quadratureRule number ≡ Unknown → Claim (quadratureRule number) m old v x y z noSuchChoice 0 m old
+claim-unknown number m old v x y z e =
+    subst (λ (rule : Rule). Claim rule m old v x y z noSuchChoice 0 m old) (sym e)
+    (claim-refused (cell (blockUnder Unknown)) (matrix (blockUnder Unknown)) _ m old v x y z noSuchChoice (λ q. suc-ne-zero 11 q) (unknown m (length old) v x y z))

@@ -1,0 +1,23 @@
+-- By cases on the rule of the number.
+use mathlib.Core.Path.{sym, _∙_}
+use denote.Ref.{now}
+use Rattle.mesh.specs.Mesh.{meshOf}
+use Rattle.node_move.proofs.Refused.{claim-known, claim-unknown}
+use borrow.Author.Needs.{needs}
+use Rattle.node_move.proofs.move_node.Statement.{statement}
+use Rattle.node_move.proofs.move_node.Tie as tie
+
+returns : tie.Need-returns
+returns c =
+    let a = c .before .before .before .before .before .before .before .before .before .before .before .before .before .before .before .before .before .before .before .before .before .before .before .before .args in
+    claim-known (a .rule) _ (meshOf (now (a .x)) (now (a .y)) (now (a .z)) (now (a .t0)) (now (a .t1)) (now (a .t2))) (now (a .out)) (a .v) (a .px) (a .py) (a .pz) _ _ _ _ (sym (c .before .before .before .before .before .before .before .before .before .before .before .before .before .before .before .before .quadrature-rule .ensures) ∙ c .before .before .before .before .before .before .before .before .before .before .before .before .before .before .kind .given .1) (c .before .before .before .before .before .before .before .before .move-under .ensures)
+
+returns-2 : tie.Need-returns-2
+returns-2 c =
+    let a = c .before .before .before .before .before .before .before .before .before .before .args in
+    claim-unknown (a .rule) (meshOf (now (a .x)) (now (a .y)) (now (a .z)) (now (a .t0)) (now (a .t1)) (now (a .t2))) (now (a .out)) (a .v) (a .px) (a .py) (a .pz) (sym (c .before .before .quadrature-rule .ensures) ∙ c .enum-told .given .1)
+
+pub move-node-spec : {M : Type 1} → statement M
+move-node-spec =
+    tie.close
+    (tie.spec (search needs) (search needs) (search needs) (search needs) (search needs) (search needs) (search needs) (search needs) returns returns-2)

@@ -1,0 +1,33 @@
+-- A refusal leaves everything as it was; a move that is done is ready, and its own claim is that of the call.
+use mathlib.Core.Path.{sym, _∙_}
+use denote.Ref.{now}
+use Rattle.mesh.specs.Mesh.{Mesh, meshOf}
+use Rattle.coupling.specs.Block.{mutualInductanceBlock}
+use Rattle.inductance.specs.Matrix.{cell, matrix}
+use Rattle.node_move.proofs.Laws.{move-fresh}
+use Rattle.node_move.proofs.Refused.{ready, claim-refused, claim-done}
+use borrow.Author.Needs.{needs}
+use Rattle.node_move.proofs.move_under.Statement.{statement}
+use Rattle.node_move.proofs.move_under.Tie as tie
+
+returns : tie.Need-returns
+returns c =
+    let a = c .before .before .before .before .before .before .before .before .before .before .before .before .args in
+    claim-refused _ _ _ (meshOf (now (a .x)) (now (a .y)) (now (a .z)) (now (a .t0)) (now (a .t1)) (now (a .t2))) (now (a .out)) (a .v) (a .px) (a .py) (a .pz) _ (c .if1 .taken) (c .before .place-refusal .ensures)
+
+move-accepted-requires : tie.Need-move-accepted-requires
+move-accepted-requires c κs =
+    let a = c .before .before .before .before .before .before .before .before .before .before .before .before .before .before .before .before .args in
+    ready (meshOf (now (a .x)) (now (a .y)) (now (a .z)) (now (a .t0)) (now (a .t1)) (now (a .t2))) (now (a .out)) (a .v) (a .px) (a .py) (a .pz) _ (c .before .before .before .before .before .place-refusal .ensures) (c .before .before .before .before .if1 .left)
+
+returns-2 : tie.Need-returns-2
+returns-2 c =
+    let a = c .before .before .before .before .before .before .before .before .before .before .before .before .before .before .before .before .before .before .before .before .before .before .before .before .before .args in
+    let m : Mesh = meshOf (now (a .x)) (now (a .y)) (now (a .z)) (now (a .t0)) (now (a .t1)) (now (a .t2)) in
+    let f = mutualInductanceBlock (a .kind) in
+    claim-done (cell f) (matrix f) _ m (now (a .out)) (a .v) (a .px) (a .py) (a .pz) _ _ _ (move-fresh f m (a .v) (a .px) (a .py) (a .pz)) (sym (c .before .before .before .before .before .before .before .before .before .before .before .before .before .if1 .left) ∙ c .before .before .before .before .before .before .before .before .before .before .before .before .before .before .place-refusal .ensures) (c .before .before .before .before .before .before .before .before .move-accepted .ensures)
+
+pub move-under-spec : {M : Type 1} → statement M
+move-under-spec =
+    tie.close
+    (tie.spec (search needs) (search needs) (search needs) (search needs) returns move-accepted-requires (search needs) (search needs) (search needs) (search needs) returns-2)

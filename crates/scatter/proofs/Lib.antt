@@ -1,0 +1,5 @@
+pub mod Cells
+pub mod Steps
+pub mod Clearing
+pub mod Misses
+pub mod Renewals

@@ -1,0 +1,103 @@
+-- Which cells a block's additions leave alone, and with marks, which blocks add nothing.
+use mathlib.Core.Path.{_≡_, refl, ap, ap₂, _∙_}
+use mathlib.Core.Bool.{Bool, true, false, _&&_, _||_, and-comm, or-comm}
+use mathlib.Core.List.{List, [], _∷_, _++_, map}
+use Prim.Native.Nat.{ℕ, suc, _+_}
+use lib.Dec.{eqb}
+use lib.Ieee.{Float}
+use Rattle.binary64.specs.Binary64.{at}
+use Rattle.mesh.specs.Counting.{anyOf}
+use Rattle.mesh.proofs.Refusals.{or-off}
+use Rattle.scatter.specs.Entries.{Entry, same, transpose, rowEntries, blockEntries, oriented, withTransposed, hits, keep, contributions}
+use Rattle.scatter.specs.Renewal.{named, scatter, only, keepEntry, renewing}
+use Rattle.scatter.proofs.Cells.{only-append}
+
+-- ---- contributions
+pub contributions-append : (es fs : List Entry) (a b : ℕ) → contributions (es ++ fs) a b ≡ contributions es a b ++ contributions fs a b
+contributions-append [] fs a b = refl
+contributions-append (e ∷ es) fs a b = go (hits e a b) (contributions-append es fs a b)
+  where
+    go : (t : Bool)
+        → contributions (es ++ fs) a b ≡ contributions es a b ++ contributions fs a b
+        → keep t (e .value) (contributions (es ++ fs) a b) ≡ keep t (e .value) (contributions es a b) ++ contributions fs a b
+    go true ih = ap {B = List Float} (λ l. e .value ∷ l) ih
+    go false ih = ih
+
+-- a transposed addition hits (a, b) where the addition hits (b, a)
+pub contributions-transposed : (es : List Entry) (a b : ℕ) → contributions (oriented true es) a b ≡ contributions es b a
+unfolding oriented
+contributions-transposed [] a b = refl
+contributions-transposed (e ∷ es) a b = ap₂ (λ (t : Bool) (l : List Float). keep t (e .value) l) (and-comm (eqb (e .col) a) (eqb (e .row) b)) (contributions-transposed es a b)
+
+row-misses : (x : ℕ) (t : List ℕ) (v : List Float) (k a b : ℕ) → eqb x a ≡ false → contributions (rowEntries x t v k) a b ≡ []
+unfolding rowEntries
+row-misses x [] v k a b h = refl
+row-misses x (y ∷ t) v k a b h = rw h (row-misses x t v (suc k) a b h)
+
+column-misses : (x : ℕ) (t : List ℕ) (v : List Float) (k a b : ℕ) → anyOf (same b) t ≡ false → contributions (rowEntries x t v k) a b ≡ []
+unfolding rowEntries anyOf
+column-misses x [] v k a b h = refl
+column-misses x (y ∷ t) v k a b h = let w = or-off _ _ h in go (eqb x a) (w .0) (column-misses x t v (suc k) a b (w .1))
+  where
+    go : (u : Bool)
+        → eqb y b ≡ false
+        → contributions (rowEntries x t v (suc k)) a b ≡ []
+        → keep (u && eqb y b) (at v k) (contributions (rowEntries x t v (suc k)) a b) ≡ []
+    go true q ih = rw q ih
+    go false q ih = ih
+
+-- a block adds nothing to a row that is no source node, and nothing to a column that is no target node
+pub source-misses : (s t : List ℕ) (v : List Float) (k a b : ℕ) → anyOf (same a) s ≡ false → contributions (blockEntries s t v k) a b ≡ []
+unfolding blockEntries anyOf
+source-misses [] t v k a b h = refl
+source-misses (x ∷ s) t v k a b h =
+    let w = or-off _ _ h in
+    contributions-append (rowEntries x t v k) (blockEntries s t v (k + 3)) a b
+    ∙ ap₂ (λ (l r : List Float). l ++ r) (row-misses x t v k a b (w .0)) (source-misses s t v (k + 3) a b (w .1))
+
+pub target-misses : (s t : List ℕ) (v : List Float) (k a b : ℕ) → anyOf (same b) t ≡ false → contributions (blockEntries s t v k) a b ≡ []
+unfolding blockEntries
+target-misses [] t v k a b h = refl
+target-misses (x ∷ s) t v k a b h =
+    contributions-append (rowEntries x t v k) (blockEntries s t v (k + 3)) a b
+    ∙ ap₂ (λ (l r : List Float). l ++ r) (column-misses x t v k a b h) (target-misses s t v (k + 3) a b h)
+
+pub both-miss : (u : Bool) (es : List Entry) (a b : ℕ) → contributions es a b ≡ [] → contributions es b a ≡ [] → contributions (withTransposed u es) a b ≡ []
+unfolding withTransposed
+both-miss true es a b h g = h
+both-miss false es a b h g = contributions-append es (oriented true es) a b ∙ ap₂ (λ (l r : List Float). l ++ r) h (contributions-transposed es a b ∙ g)
+
+-- ---- with marks: a block whose nodes are not marked adds nothing
+only-transposed : (r : ℕ → Bool) (es : List Entry) → only r (oriented true es) ≡ oriented true (only r es)
+unfolding oriented
+only-transposed r [] = refl
+only-transposed r (e ∷ es) = rw (or-comm (r (e .col)) (r (e .row))) (go (named r (e .row) (e .col)) (only-transposed r es))
+  where
+    go : (t : Bool) → only r (map transpose es) ≡ map transpose (only r es) → keepEntry t (transpose e) (only r (map transpose es)) ≡ map transpose (keepEntry t e (only r es))
+    go true ih = ap {B = List Entry} (λ l. transpose e ∷ l) ih
+    go false ih = ih
+
+only-row : (r : ℕ → Bool) (x : ℕ) (t : List ℕ) (v : List Float) (k : ℕ) → r x ≡ false → anyOf r t ≡ false → only r (rowEntries x t v k) ≡ []
+unfolding rowEntries anyOf
+only-row r x [] v k h g = refl
+only-row r x (y ∷ t) v k h g = let w = or-off (r y) (anyOf r t) g in rw (h, w .0) (only-row r x t v (suc k) h (w .1))
+
+only-block : (r : ℕ → Bool) (s t : List ℕ) (v : List Float) (k : ℕ) → anyOf r s ≡ false → anyOf r t ≡ false → only r (blockEntries s t v k) ≡ []
+unfolding blockEntries anyOf
+only-block r [] t v k h g = refl
+only-block r (x ∷ s) t v k h g =
+    let w = or-off _ _ h in
+    only-append r (rowEntries x t v k) (blockEntries s t v (k + 3))
+    ∙ ap₂ (λ (l m : List Entry). l ++ m) (only-row r x t v k (w .0) g) (only-block r s t v (k + 3) (w .1) g)
+
+only-both : (r : ℕ → Bool) (u : Bool) (es : List Entry) → only r es ≡ [] → only r (withTransposed u es) ≡ []
+unfolding withTransposed oriented
+only-both r true es h = h
+only-both r false es h = only-append r es (oriented true es) ∙ ap₂ (λ (l m : List Entry). l ++ m) h (only-transposed r es ∙ ap (oriented true) h)
+
+pub block-skipped : (r : ℕ → Bool) (n : ℕ) (u : Bool) (s t : List ℕ) (v : List Float) (out : List Float)
+    → (anyOf r s || anyOf r t) ≡ false → renewing r n out (withTransposed u (blockEntries s t v 0)) ≡ out
+unfolding renewing scatter
+block-skipped r n u s t v out h =
+    let w = or-off _ _ h in
+    ap (scatter n out) (only-both r u (blockEntries s t v 0) (only-block r s t v 0 (w .0) (w .1)))

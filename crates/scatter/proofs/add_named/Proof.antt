@@ -1,0 +1,21 @@
+-- The test is `named`: the one addition is made, or none is.
+use denote.Ref.{now}
+use Rattle.scatter.proofs.Steps.{named-added, other-left}
+use borrow.Author.Needs.{needs}
+use Rattle.scatter.proofs.add_named.Statement.{statement}
+use Rattle.scatter.proofs.add_named.Tie as tie
+
+returns : tie.Need-returns
+returns c =
+    let a = c .before .before .before .before .before .before .before .before .before .args in
+    named-added (now (a .marks)) (a .n) (now (a .out)) (a .row) (a .col) (a .v) (c .before .before .before .before .if1 .taken) (c .before .before .add-at .ensures)
+
+returns-2 : tie.Need-returns-2
+returns-2 c =
+    let a = c .before .before .before .before .before .args in
+    other-left (now (a .marks)) (a .n) (now (a .out)) (a .row) (a .col) (a .v) (c .if1 .left)
+
+pub add-named-spec : {M : Type 1} → statement M
+add-named-spec =
+    tie.close
+    (tie.spec (search needs) (search needs) (search needs) (search needs) returns returns-2)

@@ -1,0 +1,25 @@
+-- Three rows, one after the other, in one orientation.
+use denote.Ref.{now}
+use lib.ListN.{getD}
+use Rattle.mesh.specs.Counting.{three}
+use Rattle.scatter.specs.Entries.{rowEntries, blockEntries}
+use Rattle.scatter.specs.Renewal.{marked}
+use Rattle.scatter.proofs.Steps.{three-steps}
+use borrow.Author.Needs.{needs}
+use Rattle.scatter.proofs.scatter_triangle_block.Statement.{statement}
+use Rattle.scatter.proofs.scatter_triangle_block.Tie as tie
+
+returns : tie.Need-returns
+unfolding blockEntries rowEntries
+returns c =
+    let a = c .before .before .before .before .before .before .before .before .before .before .before .before .before .before .args in
+    three-steps (marked (now (a .marks))) (a .n) (a .transposed) (now (a .out)) (rowEntries (getD (a .t4) 0 0) (three (a .t)) (a .t6) 0) (rowEntries (getD (a .t4) 1 0) (three (a .t)) (a .t6) 3) (rowEntries (getD (a .t4) 2 0) (three (a .t)) (a .t6) 6)
+    (c .before .before .before .before .before .before .before .before .before .before .add-row .ensures)
+    (c .before .before .before .before .before .before .add-row2 .ensures)
+    (c .before .before .add-row3 .ensures)
+
+pub scatter-triangle-block-spec : {M : Type 1} → statement M
+scatter-triangle-block-spec =
+    tie.close
+    (tie.spec (search needs) (search needs) (search needs) (search needs) (search needs) (search needs) (search needs) (search needs) (search needs)
+    (search needs) (search needs) (search needs) (search needs) (search needs) (search needs) (search needs) returns)

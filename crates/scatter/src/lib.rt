@@ -1,0 +1,143 @@
+// Additions to a nodal matrix of n rows and n columns, row by row, as in `scatter_triangle_block` and
+// `scatter_triangle_block_transpose` of inductance.rs. Only cells with a marked row or column change:
+// with every node marked the whole matrix is assembled, with a ring marked the cells that a move names.
+ghost use mathlib.Core.Path.{_≡_};
+ghost use mathlib.Core.Bool.{cond};
+ghost use mathlib.Core.List.{[], _∷_};
+ghost use Prim.Native.Nat.{_<_, _≤_, _*_, _/_, _%_};
+ghost use lib.ListN.{length, set};
+ghost use Rattle.binary64.specs.Binary64.{at, plusZero};
+ghost use Rattle.mesh.specs.Mesh.{maxNodes};
+ghost use Rattle.mesh.specs.Counting.{anyOf, three};
+ghost use Rattle.scatter.specs.Entries.{entry, rowEntries, blockEntries, oriented, withTransposed};
+ghost use Rattle.scatter.specs.Renewal.{named, renewed, addAt, renewing, marked, Sized, AllBelow};
+
+// One addition.
+fn add_at(out: &mut [f64], n: usize, row: usize, col: usize, v: f64)
+    requires { ⌜ (n ≤ maxNodes) × (length (now out) ≡ n * n) × (row < n) × (col < n) ⌝ }
+    ensures { λ _. ⌜ now (out .exit) ≡ addAt n (now (out .entry)) (entry row col v) ⌝ }
+{
+    let k = row * n + col;
+    out[k] = out[k] + v;
+}
+
+// One addition, if its cell is named.
+fn add_named(out: &mut [f64], n: usize, marks: &[bool], row: usize, col: usize, v: f64)
+    requires { ⌜ Sized n (now out) (now marks) ⌝ }
+    requires { ⌜ (row < n) × (col < n) ⌝ }
+    ensures { λ _. ⌜ now (out .exit) ≡ renewing (marked (now (marks .entry))) n (now (out .entry)) (entry row col v ∷ []) ⌝ }
+{
+    if marks[row] | marks[col] {
+        add_at(out, n, row, col, v);
+    }
+}
+
+// The same, to the transposed cell if so asked.
+fn add_oriented(
+    out: &mut [f64],
+    n: usize,
+    marks: &[bool],
+    row: usize,
+    col: usize,
+    v: f64,
+    transposed: bool,
+)
+    requires { ⌜ Sized n (now out) (now marks) ⌝ }
+    requires { ⌜ (row < n) × (col < n) ⌝ }
+    ensures { λ _. ⌜ now (out .exit) ≡ renewing (marked (now (marks .entry))) n (now (out .entry)) (oriented transposed (entry row col v ∷ [])) ⌝ }
+{
+    if transposed {
+        add_named(out, n, marks, col, row, v);
+    } else {
+        add_named(out, n, marks, row, col, v);
+    }
+}
+
+// One row of a block.
+fn add_row(
+    out: &mut [f64],
+    n: usize,
+    marks: &[bool],
+    row: usize,
+    t: [usize; 3],
+    v: [f64; 3],
+    transposed: bool,
+)
+    requires { ⌜ Sized n (now out) (now marks) ⌝ }
+    requires { ⌜ (row < n) × AllBelow n (three t) ⌝ }
+    ensures { λ _. ⌜ now (out .exit) ≡ renewing (marked (now (marks .entry))) n (now (out .entry)) (oriented transposed (rowEntries row (three t) v 0)) ⌝ }
+{
+    add_oriented(out, n, marks, row, t[0], v[0], transposed);
+    add_oriented(out, n, marks, row, t[1], v[1], transposed);
+    add_oriented(out, n, marks, row, t[2], v[2], transposed);
+}
+
+// A block at the source nodes s and the target nodes t, rows then columns.
+pub fn scatter_triangle_block(
+    out: &mut [f64],
+    n: usize,
+    marks: &[bool],
+    s: [usize; 3],
+    t: [usize; 3],
+    b: [f64; 9],
+    transposed: bool,
+)
+    requires { ⌜ Sized n (now out) (now marks) ⌝ }
+    requires { ⌜ AllBelow n (three s) × AllBelow n (three t) ⌝ }
+    ensures { λ _. ⌜ now (out .exit) ≡ renewing (marked (now (marks .entry))) n (now (out .entry)) (oriented transposed (blockEntries (three s) (three t) b 0)) ⌝ }
+{
+    add_row(out, n, marks, s[0], t, [b[0], b[1], b[2]], transposed);
+    add_row(out, n, marks, s[1], t, [b[3], b[4], b[5]], transposed);
+    add_row(out, n, marks, s[2], t, [b[6], b[7], b[8]], transposed);
+}
+
+// The block of a pair of panels and, unless it is one panel with itself, the same block transposed.
+pub fn scatter_pair(
+    out: &mut [f64],
+    n: usize,
+    marks: &[bool],
+    s: [usize; 3],
+    t: [usize; 3],
+    b: [f64; 9],
+    same: bool,
+)
+    requires { ⌜ Sized n (now out) (now marks) ⌝ }
+    requires { ⌜ AllBelow n (three s) × AllBelow n (three t) ⌝ }
+    ensures { λ _. ⌜ now (out .exit) ≡ renewing (marked (now (marks .entry))) n (now (out .entry)) (withTransposed same (blockEntries (three s) (three t) b 0)) ⌝ }
+{
+    scatter_triangle_block(out, n, marks, s, t, b, false);
+    if !same {
+        scatter_triangle_block(out, n, marks, s, t, b, true);
+    }
+}
+
+// One of the nodes of a panel is marked.
+pub fn touches(marks: &[bool], s: [usize; 3]) -> bool
+    requires { ⌜ AllBelow (length (now marks)) (three s) ⌝ }
+    ensures { λ r. ⌜ r ≡ anyOf (marked (now (marks .entry))) (three s) ⌝ }
+{
+    marks[s[0]] | (marks[s[1]] | marks[s[2]])
+}
+
+// The cell at k becomes +0 if it is named.
+fn clear_cell(out: &mut [f64], n: usize, marks: &[bool], k: usize)
+    requires { ⌜ Sized n (now out) (now marks) ⌝ }
+    requires { ⌜ k < length (now out) ⌝ }
+    ensures { λ _. ⌜ now (out .exit) ≡ set (now (out .entry)) k (cond (named (marked (now (marks .entry))) (k / n) (k % n)) plusZero (at (now (out .entry)) k)) ⌝ }
+{
+    if marks[k / n] | marks[k % n] {
+        out[k] = 0.0;
+    }
+}
+
+// Named cells become +0.
+pub fn clear_named(out: &mut [f64], n: usize, marks: &[bool])
+    requires { ⌜ Sized n (now out) (now marks) ⌝ }
+    ensures { λ _. ⌜ now (out .exit) ≡ renewed (marked (now (marks .entry))) (λ a b. plusZero) n (now (out .entry)) ⌝ }
+{
+    let mut k = 0;
+    while k < out.len() {
+        clear_cell(out, n, marks, k);
+        k += 1;
+    }
+}
