@@ -1,0 +1,38 @@
+-- A space and the sixteen digits that `io` writes, put one behind the other.
+use mathlib.Core.Path.{_≡_, ap, _∙_, subst}
+use mathlib.Core.List.{List, [], _∷_}
+use Prim.Native.Nat.{ℕ}
+use native.Mathlib.Omega.{arith}
+use denote.Ref.{now}
+use lib.ListN.{length, take}
+use Rattle.io.specs.Digits.{digits}
+use Rattle.density_text.specs.Text.{canonicalBits, field, Put}
+use Rattle.density_text.proofs.Putting.{both}
+use Rattle.density_text.proofs.Numerals.{sixteen, digits-length}
+use borrow.Author.Needs.{needs}
+use Rattle.density_text.proofs.put_field.Statement.{statement}
+use Rattle.density_text.proofs.put_field.Tie as tie
+
+-- what `io` writes is the sixteen digits
+spelled : (c : tie.After-hex) → take (c .hex .result) (c .hex .last .1 .1 .0) ≡ digits 16 16 (canonicalBits (c .before .before .before .before .args .x))
+spelled c =
+    let n = c .before .before .canonical-bits in
+    c .hex .ensures .1 .1
+    ∙ ap (λ (k : ℕ). digits 16 k (n .result)) (sixteen (n .result) (c .hex .result) (n .ok) (c .hex .ensures .1 .0))
+    ∙ ap (λ (b : ℕ). digits 16 16 b) (n .ensures)
+
+put-requires-2 : tie.Need-put-requires-2
+put-requires-2 c κs = omega (arith, ap length (spelled (c .before .before .before .before .before .before .before)), digits-length 16 16 (canonicalBits (c .before .before .before .before .before .before .before .before .before .before .before .args .x)), c .before .before .before .before .put .ensures .behind, c .before .before .before .before .put .kept .0, c .before .before .before .before .before .before .before .before .before .before .before .pre)
+
+returns : tie.Need-returns
+unfolding field
+returns c =
+    let s = c .before .before .before .before .before .before .before .before .before .before .before .before .before .before in
+    let second = subst (λ (t : List ℕ). Put (c .before .before .before .before .before .before .before .put .last .0) (c .before .before .before .before .before .before .before .put .result) t (c .before .before .put2 .last .0) (c .before .before .put2 .result)) (spelled (c .before .before .before .before .before .before .before .before .before .before)) (c .before .before .put2 .ensures) in
+    both (now (s .args .out)) (s .args .from) (32 ∷ []) _ _ _ _ _ (omega (arith, s .pre)) (c .before .before .before .before .before .before .before .put .ensures) second
+
+pub put-field-spec : {M : Type 1} → statement M
+put-field-spec =
+    tie.close
+    (tie.spec (search needs) (search needs) (search needs) (search needs) (search needs) (search needs)
+    put-requires-2 (search needs) returns)

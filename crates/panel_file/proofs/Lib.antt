@@ -1,0 +1,6 @@
+pub mod Numbers
+pub mod Decoded
+pub mod Accepted
+pub mod Refusals
+pub mod Fields
+pub mod RoundTrip

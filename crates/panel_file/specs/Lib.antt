@@ -1,0 +1,4 @@
+pub mod LittleEndian
+pub mod PanelFile
+pub mod Conditions
+pub mod Examples
