@@ -1,0 +1,315 @@
+// Two panels, source and target, by the coordinates of their corners: source a, b and c, target d, e and f.
+ghost use mathlib.Core.Path.{_≡_};
+ghost use mathlib.Core.List.{[], _++_};
+ghost use lib.ListN.{getD};
+ghost use Rattle.coupling.specs.Bisection as Bisection;
+ghost use Rattle.coupling.specs.Calls as Calls;
+ghost use Rattle.coupling.specs.Coupling as Coupling;
+ghost use Rattle.coupling.specs.Distance as Distance;
+ghost use Rattle.screens.specs.Screens.{triangle, halvesOf, Wrote, Valued, WroteBlock};
+use crate::output;
+use crate::panels::nine;
+
+#[no_mangle]
+pub extern "C" fn screens_triangle_distance_squared(
+    a0: f64,
+    a1: f64,
+    a2: f64,
+    b0: f64,
+    b1: f64,
+    b2: f64,
+    c0: f64,
+    c1: f64,
+    c2: f64,
+    d0: f64,
+    d1: f64,
+    d2: f64,
+    e0: f64,
+    e1: f64,
+    e2: f64,
+    f0: f64,
+    f1: f64,
+    f2: f64,
+) -> f64
+    ensures { λ r. ⌜ r ≡ Distance.triangleDistanceSquared (triangle a0 a1 a2 b0 b1 b2 c0 c1 c2) (triangle d0 d1 d2 e0 e1 e2 f0 f1 f2) ⌝ }
+{
+    coupling::distance::triangle_distance_squared(
+        [[a0, a1, a2], [b0, b1, b2], [c0, c1, c2]],
+        [[d0, d1, d2], [e0, e1, e2], [f0, f1, f2]],
+    )
+}
+
+#[no_mangle]
+pub extern "C" fn screens_triangle_aabb_distance_squared(
+    a0: f64,
+    a1: f64,
+    a2: f64,
+    b0: f64,
+    b1: f64,
+    b2: f64,
+    c0: f64,
+    c1: f64,
+    c2: f64,
+    d0: f64,
+    d1: f64,
+    d2: f64,
+    e0: f64,
+    e1: f64,
+    e2: f64,
+    f0: f64,
+    f1: f64,
+    f2: f64,
+) -> f64
+    ensures { λ r. ⌜ r ≡ Distance.triangleAabbDistanceSquared (triangle a0 a1 a2 b0 b1 b2 c0 c1 c2) (triangle d0 d1 d2 e0 e1 e2 f0 f1 f2) ⌝ }
+{
+    coupling::distance::triangle_aabb_distance_squared(
+        [[a0, a1, a2], [b0, b1, b2], [c0, c1, c2]],
+        [[d0, d1, d2], [e0, e1, e2], [f0, f1, f2]],
+    )
+}
+
+#[no_mangle]
+pub extern "C" fn screens_triangle_max_edge_squared(
+    a0: f64,
+    a1: f64,
+    a2: f64,
+    b0: f64,
+    b1: f64,
+    b2: f64,
+    c0: f64,
+    c1: f64,
+    c2: f64,
+) -> f64
+    ensures { λ r. ⌜ r ≡ Distance.triangleMaxEdgeSquared (triangle a0 a1 a2 b0 b1 b2 c0 c1 c2) ⌝ }
+{
+    coupling::distance::triangle_max_edge_squared([[a0, a1, a2], [b0, b1, b2], [c0, c1, c2]])
+}
+
+#[no_mangle]
+pub extern "C" fn screens_is_far(
+    a0: f64,
+    a1: f64,
+    a2: f64,
+    b0: f64,
+    b1: f64,
+    b2: f64,
+    c0: f64,
+    c1: f64,
+    c2: f64,
+    d0: f64,
+    d1: f64,
+    d2: f64,
+    e0: f64,
+    e1: f64,
+    e2: f64,
+    f0: f64,
+    f1: f64,
+    f2: f64,
+) -> bool
+    ensures { λ r. ⌜ r ≡ Coupling.isFar (triangle a0 a1 a2 b0 b1 b2 c0 c1 c2) (triangle d0 d1 d2 e0 e1 e2 f0 f1 f2) ⌝ }
+{
+    coupling::coupling::is_far(
+        [[a0, a1, a2], [b0, b1, b2], [c0, c1, c2]],
+        [[d0, d1, d2], [e0, e1, e2], [f0, f1, f2]],
+    )
+}
+
+// The geometric coupling; it goes to the lent number, 0 on a refusal, as every value below.
+#[no_mangle]
+pub extern "C" fn screens_coupling(
+    rule: u32,
+    a0: f64,
+    a1: f64,
+    a2: f64,
+    b0: f64,
+    b1: f64,
+    b2: f64,
+    c0: f64,
+    c1: f64,
+    c2: f64,
+    d0: f64,
+    d1: f64,
+    d2: f64,
+    e0: f64,
+    e1: f64,
+    e2: f64,
+    f0: f64,
+    f1: f64,
+    f2: f64,
+    value: &mut f64,
+) -> u32
+    ensures { λ r. ⌜ Valued (Calls.triangleGeometricCoupling rule (triangle a0 a1 a2 b0 b1 b2 c0 c1 c2) (triangle d0 d1 d2 e0 e1 e2 f0 f1 f2)) r (now (value .exit)) ⌝ }
+{
+    let answer = coupling::calls::triangle_geometric_coupling(
+        rule,
+        [[a0, a1, a2], [b0, b1, b2], [c0, c1, c2]],
+        [[d0, d1, d2], [e0, e1, e2], [f0, f1, f2]],
+    );
+    *value = answer.value;
+    answer.refusal
+}
+
+#[no_mangle]
+pub extern "C" fn screens_coupling_regular(
+    rule: u32,
+    a0: f64,
+    a1: f64,
+    a2: f64,
+    b0: f64,
+    b1: f64,
+    b2: f64,
+    c0: f64,
+    c1: f64,
+    c2: f64,
+    d0: f64,
+    d1: f64,
+    d2: f64,
+    e0: f64,
+    e1: f64,
+    e2: f64,
+    f0: f64,
+    f1: f64,
+    f2: f64,
+    value: &mut f64,
+) -> u32
+    ensures { λ r. ⌜ Valued (Calls.triangleGeometricCouplingRegular rule (triangle a0 a1 a2 b0 b1 b2 c0 c1 c2) (triangle d0 d1 d2 e0 e1 e2 f0 f1 f2)) r (now (value .exit)) ⌝ }
+{
+    let answer = coupling::calls::triangle_geometric_coupling_regular(
+        rule,
+        [[a0, a1, a2], [b0, b1, b2], [c0, c1, c2]],
+        [[d0, d1, d2], [e0, e1, e2], [f0, f1, f2]],
+    );
+    *value = answer.value;
+    answer.refusal
+}
+
+// Between corner i of the source and corner j of the target.
+#[no_mangle]
+pub extern "C" fn screens_mutual_inductance(
+    rule: u32,
+    a0: f64,
+    a1: f64,
+    a2: f64,
+    b0: f64,
+    b1: f64,
+    b2: f64,
+    c0: f64,
+    c1: f64,
+    c2: f64,
+    i: usize,
+    d0: f64,
+    d1: f64,
+    d2: f64,
+    e0: f64,
+    e1: f64,
+    e2: f64,
+    f0: f64,
+    f1: f64,
+    f2: f64,
+    j: usize,
+    value: &mut f64,
+) -> u32
+    ensures { λ r. ⌜ Valued (Calls.triangleBasisMutualInductance rule (triangle a0 a1 a2 b0 b1 b2 c0 c1 c2) i (triangle d0 d1 d2 e0 e1 e2 f0 f1 f2) j) r (now (value .exit)) ⌝ }
+{
+    let answer = coupling::calls::triangle_basis_mutual_inductance(
+        rule,
+        [[a0, a1, a2], [b0, b1, b2], [c0, c1, c2]],
+        i,
+        [[d0, d1, d2], [e0, e1, e2], [f0, f1, f2]],
+        j,
+    );
+    *value = answer.value;
+    answer.refusal
+}
+
+// The block of the corners' inductances, row by row.
+#[no_mangle]
+pub extern "C" fn screens_mutual_inductance_block(
+    rule: u32,
+    a0: f64,
+    a1: f64,
+    a2: f64,
+    b0: f64,
+    b1: f64,
+    b2: f64,
+    c0: f64,
+    c1: f64,
+    c2: f64,
+    d0: f64,
+    d1: f64,
+    d2: f64,
+    e0: f64,
+    e1: f64,
+    e2: f64,
+    f0: f64,
+    f1: f64,
+    f2: f64,
+    out: &mut [f64],
+) -> u32
+    ensures { λ r. ⌜ WroteBlock (Calls.triangleBasisMutualInductanceBlock rule (triangle a0 a1 a2 b0 b1 b2 c0 c1 c2) (triangle d0 d1 d2 e0 e1 e2 f0 f1 f2)) (now (out .entry)) r (now (out .exit)) ⌝ }
+{
+    let answer = coupling::calls::triangle_basis_mutual_inductance_block(
+        rule,
+        [[a0, a1, a2], [b0, b1, b2], [c0, c1, c2]],
+        [[d0, d1, d2], [e0, e1, e2], [f0, f1, f2]],
+    );
+    if answer.refusal != 0 {
+        return answer.refusal;
+    }
+    let values = answer.values;
+    output::write9(values, out)
+}
+
+// Two triangles as eighteen numbers.
+fn eighteen(h: [[[f64; 3]; 3]; 2]) -> [f64; 18]
+    ensures { λ r. ⌜ r ≡ halvesOf h ⌝ }
+{
+    let a = nine(h[0]);
+    let b = nine(h[1]);
+    [
+        a[0],
+        a[1],
+        a[2],
+        a[3],
+        a[4],
+        a[5],
+        a[6],
+        a[7],
+        a[8],
+        b[0],
+        b[1],
+        b[2],
+        b[3],
+        b[4],
+        b[5],
+        b[6],
+        b[7],
+        b[8],
+    ]
+}
+
+// The halves of a triangle at its longest edge.
+#[no_mangle]
+pub extern "C" fn screens_longest_edge_bisection(
+    a0: f64,
+    a1: f64,
+    a2: f64,
+    b0: f64,
+    b1: f64,
+    b2: f64,
+    c0: f64,
+    c1: f64,
+    c2: f64,
+    out: &mut [f64],
+) -> u32
+    ensures { λ r. ⌜ Wrote 18 (halvesOf (Bisection.longestEdgeBisection (triangle a0 a1 a2 b0 b1 b2 c0 c1 c2))) (now (out .entry)) r (now (out .exit)) ⌝ }
+{
+    output::write18(
+        eighteen(coupling::bisection::longest_edge_bisection([
+            [a0, a1, a2],
+            [b0, b1, b2],
+            [c0, c1, c2],
+        ])),
+        out,
+    )
+}

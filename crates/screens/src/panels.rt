@@ -1,0 +1,360 @@
+// One panel, by the coordinates of its corners.
+ghost use mathlib.Core.Path.{_≡_};
+ghost use Rattle.tri.specs.Mapping as Mapping;
+ghost use Rattle.tri.specs.Tri3 as Tri3;
+ghost use Rattle.potential.specs.Potential as Potential;
+ghost use Rattle.mesh.specs.Mesh as Mesh;
+ghost use Rattle.boundary_element.specs.CurrentDensity as Density;
+ghost use Rattle.boundary_element.specs.Identity as Identity;
+ghost use Rattle.screens.specs.Screens.{vector, triangle, recordNumbers, rowsOf, Wrote};
+use crate::output;
+use boundary_element::current_density;
+use potential::UniformTriangle;
+
+// The area of the triangle with corners a, b and c.
+#[no_mangle]
+pub extern "C" fn screens_area(
+    a0: f64,
+    a1: f64,
+    a2: f64,
+    b0: f64,
+    b1: f64,
+    b2: f64,
+    c0: f64,
+    c1: f64,
+    c2: f64,
+) -> f64
+    ensures { λ r. ⌜ r ≡ Mapping.area (triangle a0 a1 a2 b0 b1 b2 c0 c1 c2) ⌝ }
+{
+    tri::mapping::area([[a0, a1, a2], [b0, b1, b2], [c0, c1, c2]])
+}
+
+// Its unit normal.
+#[no_mangle]
+pub extern "C" fn screens_normal(
+    a0: f64,
+    a1: f64,
+    a2: f64,
+    b0: f64,
+    b1: f64,
+    b2: f64,
+    c0: f64,
+    c1: f64,
+    c2: f64,
+    out: &mut [f64],
+) -> u32
+    ensures { λ r. ⌜ Wrote 3 (Mapping.normal (triangle a0 a1 a2 b0 b1 b2 c0 c1 c2)) (now (out .entry)) r (now (out .exit)) ⌝ }
+{
+    output::write3(
+        tri::mapping::normal([[a0, a1, a2], [b0, b1, b2], [c0, c1, c2]]),
+        out,
+    )
+}
+
+// Its point at (u, v) of the reference triangle.
+#[no_mangle]
+pub extern "C" fn screens_map_point(
+    a0: f64,
+    a1: f64,
+    a2: f64,
+    b0: f64,
+    b1: f64,
+    b2: f64,
+    c0: f64,
+    c1: f64,
+    c2: f64,
+    u: f64,
+    v: f64,
+    out: &mut [f64],
+) -> u32
+    ensures { λ r. ⌜ Wrote 3 (Mapping.mapPoint (triangle a0 a1 a2 b0 b1 b2 c0 c1 c2) u v) (now (out .entry)) r (now (out .exit)) ⌝ }
+{
+    output::write3(
+        tri::mapping::map_point([[a0, a1, a2], [b0, b1, b2], [c0, c1, c2]], u, v),
+        out,
+    )
+}
+
+// Its point closest to (x, y, z).
+#[no_mangle]
+pub extern "C" fn screens_closest_point(
+    x: f64,
+    y: f64,
+    z: f64,
+    a0: f64,
+    a1: f64,
+    a2: f64,
+    b0: f64,
+    b1: f64,
+    b2: f64,
+    c0: f64,
+    c1: f64,
+    c2: f64,
+    out: &mut [f64],
+) -> u32
+    ensures { λ r. ⌜ Wrote 3 (Tri3.closestPoint (vector x y z) (triangle a0 a1 a2 b0 b1 b2 c0 c1 c2)) (now (out .entry)) r (now (out .exit)) ⌝ }
+{
+    output::write3(
+        tri::tri3::closest_point([x, y, z], [[a0, a1, a2], [b0, b1, b2], [c0, c1, c2]]),
+        out,
+    )
+}
+
+// The potential at (x, y, z) of the triangle with corners a, b and c.
+#[no_mangle]
+pub extern "C" fn screens_potential(
+    a0: f64,
+    a1: f64,
+    a2: f64,
+    b0: f64,
+    b1: f64,
+    b2: f64,
+    c0: f64,
+    c1: f64,
+    c2: f64,
+    x: f64,
+    y: f64,
+    z: f64,
+) -> f64
+    ensures { λ r. ⌜ r ≡ Potential.scalarPotential (Potential.uniformTriangle (triangle a0 a1 a2 b0 b1 b2 c0 c1 c2)) (vector x y z) ⌝ }
+{
+    UniformTriangle::new([[a0, a1, a2], [b0, b1, b2], [c0, c1, c2]]).scalar_potential([x, y, z])
+}
+
+// The gradient of that potential.
+#[no_mangle]
+pub extern "C" fn screens_gradient(
+    a0: f64,
+    a1: f64,
+    a2: f64,
+    b0: f64,
+    b1: f64,
+    b2: f64,
+    c0: f64,
+    c1: f64,
+    c2: f64,
+    x: f64,
+    y: f64,
+    z: f64,
+    out: &mut [f64],
+) -> u32
+    ensures { λ r. ⌜ Wrote 3 (Potential.scalarPotentialGradient (Potential.uniformTriangle (triangle a0 a1 a2 b0 b1 b2 c0 c1 c2)) (vector x y z)) (now (out .entry)) r (now (out .exit)) ⌝ }
+{
+    output::write3(
+        UniformTriangle::new([[a0, a1, a2], [b0, b1, b2], [c0, c1, c2]]).scalar_potential_gradient([
+            x,
+            y,
+            z,
+        ]),
+        out,
+    )
+}
+
+// Whether (x, y, z) lies on the triangle, within the tolerance of the original.
+#[no_mangle]
+pub extern "C" fn screens_contact(
+    a0: f64,
+    a1: f64,
+    a2: f64,
+    b0: f64,
+    b1: f64,
+    b2: f64,
+    c0: f64,
+    c1: f64,
+    c2: f64,
+    x: f64,
+    y: f64,
+    z: f64,
+) -> bool
+    ensures { λ r. ⌜ r ≡ Potential.containsOnSurface (Potential.uniformTriangle (triangle a0 a1 a2 b0 b1 b2 c0 c1 c2)) (vector x y z) ⌝ }
+{
+    UniformTriangle::new([[a0, a1, a2], [b0, b1, b2], [c0, c1, c2]]).contains_on_surface([x, y, z])
+}
+
+// 1 for equal edges, towards 0 for a sliver.
+#[no_mangle]
+pub extern "C" fn screens_quality(
+    a0: f64,
+    a1: f64,
+    a2: f64,
+    b0: f64,
+    b1: f64,
+    b2: f64,
+    c0: f64,
+    c1: f64,
+    c2: f64,
+) -> f64
+    ensures { λ r. ⌜ r ≡ Mesh.quality (triangle a0 a1 a2 b0 b1 b2 c0 c1 c2) ⌝ }
+{
+    mesh::triangle_quality([[a0, a1, a2], [b0, b1, b2], [c0, c1, c2]])
+}
+
+// The numbers of a panel's record in its fields' order.
+fn record_numbers(p: UniformTriangle) -> [f64; 34]
+    ensures { λ r. ⌜ r ≡ recordNumbers p ⌝ }
+{
+    let t = p.nodes;
+    let n = p.normal;
+    let g = p.edge_tangent;
+    let o = p.edge_outward;
+    let l = p.edge_length;
+    [
+        t[0],
+        t[1],
+        t[2],
+        t[3],
+        t[4],
+        t[5],
+        t[6],
+        t[7],
+        t[8],
+        n[0],
+        n[1],
+        n[2],
+        g[0],
+        g[1],
+        g[2],
+        g[3],
+        g[4],
+        g[5],
+        g[6],
+        g[7],
+        g[8],
+        o[0],
+        o[1],
+        o[2],
+        o[3],
+        o[4],
+        o[5],
+        o[6],
+        o[7],
+        o[8],
+        l[0],
+        l[1],
+        l[2],
+        p.max_edge,
+    ]
+}
+
+// The panel's record: corners, normal, edge tangents, outward edges, edge lengths, longest edge.
+#[no_mangle]
+pub extern "C" fn screens_record(
+    a0: f64,
+    a1: f64,
+    a2: f64,
+    b0: f64,
+    b1: f64,
+    b2: f64,
+    c0: f64,
+    c1: f64,
+    c2: f64,
+    out: &mut [f64],
+) -> u32
+    ensures { λ r. ⌜ Wrote 34 (recordNumbers (Potential.uniformTriangle (triangle a0 a1 a2 b0 b1 b2 c0 c1 c2))) (now (out .entry)) r (now (out .exit)) ⌝ }
+{
+    output::write34(
+        record_numbers(UniformTriangle::new([[a0, a1, a2], [b0, b1, b2], [c0, c1, c2]])),
+        out,
+    )
+}
+
+// Three vectors as nine numbers.
+pub fn nine(b: [[f64; 3]; 3]) -> [f64; 9]
+    ensures { λ r. ⌜ r ≡ rowsOf b ⌝ }
+{
+    [
+        b[0][0],
+        b[0][1],
+        b[0][2],
+        b[1][0],
+        b[1][1],
+        b[1][2],
+        b[2][0],
+        b[2][1],
+        b[2][2],
+    ]
+}
+
+// The current densities of a unit value at each corner, corner after corner.
+#[no_mangle]
+pub extern "C" fn screens_basis_current_densities(
+    a0: f64,
+    a1: f64,
+    a2: f64,
+    b0: f64,
+    b1: f64,
+    b2: f64,
+    c0: f64,
+    c1: f64,
+    c2: f64,
+    out: &mut [f64],
+) -> u32
+    ensures { λ r. ⌜ Wrote 9 (rowsOf (Density.triangleBasisCurrentDensities (triangle a0 a1 a2 b0 b1 b2 c0 c1 c2))) (now (out .entry)) r (now (out .exit)) ⌝ }
+{
+    output::write9(
+        nine(current_density::triangle_basis_current_densities([
+            [a0, a1, a2],
+            [b0, b1, b2],
+            [c0, c1, c2],
+        ])),
+        out,
+    )
+}
+
+// The current density of the values s at the corners.
+#[no_mangle]
+pub extern "C" fn screens_current_density(
+    a0: f64,
+    a1: f64,
+    a2: f64,
+    b0: f64,
+    b1: f64,
+    b2: f64,
+    c0: f64,
+    c1: f64,
+    c2: f64,
+    s0: f64,
+    s1: f64,
+    s2: f64,
+    out: &mut [f64],
+) -> u32
+    ensures { λ r. ⌜ Wrote 3 (Density.triangleCurrentDensity (triangle a0 a1 a2 b0 b1 b2 c0 c1 c2) (vector s0 s1 s2)) (now (out .entry)) r (now (out .exit)) ⌝ }
+{
+    output::write3(
+        current_density::triangle_current_density(
+            [[a0, a1, a2], [b0, b1, b2], [c0, c1, c2]],
+            [s0, s1, s2],
+        ),
+        out,
+    )
+}
+
+// Whether each corner of the first triangle, a, b and c, is within the tolerance of some corner of the second, d, e and f.
+#[no_mangle]
+pub extern "C" fn screens_triangles_identical(
+    a0: f64,
+    a1: f64,
+    a2: f64,
+    b0: f64,
+    b1: f64,
+    b2: f64,
+    c0: f64,
+    c1: f64,
+    c2: f64,
+    d0: f64,
+    d1: f64,
+    d2: f64,
+    e0: f64,
+    e1: f64,
+    e2: f64,
+    f0: f64,
+    f1: f64,
+    f2: f64,
+) -> bool
+    ensures { λ r. ⌜ r ≡ Identity.trianglesIdentical (triangle a0 a1 a2 b0 b1 b2 c0 c1 c2) (triangle d0 d1 d2 e0 e1 e2 f0 f1 f2) ⌝ }
+{
+    boundary_element::identity::triangles_identical(
+        [[a0, a1, a2], [b0, b1, b2], [c0, c1, c2]],
+        [[d0, d1, d2], [e0, e1, e2], [f0, f1, f2]],
+    )
+}
