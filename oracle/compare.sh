@@ -1,0 +1,20 @@
+#!/usr/bin/env bash
+# usage: compare.sh SOURCE [SEED] [SCALE] [KIND]
+# Proves and builds our static library (and the program `density` once there is one), builds the original in SOURCE, and
+# compares the two on cases by seed. With `findings` for SEED it asks both what docs/DIFFERENCES.md lists.
+# Ends with the count of cases and `0 differ`; the exit status is 1 if any differ.
+set -eu
+here=$(cd "$(dirname "$0")" && pwd)
+source=$(cd "${1:?usage: compare.sh SOURCE [SEED] [SCALE] [KIND]}" && pwd)
+shift
+"$here/build.sh" "$source"
+(cd "$here/.." && rt staticlib screens | tail -n 1)
+if grep -q '^density:' "$here/../crates.txt"; then
+  (cd "$here/.." && rt check density | tail -n 1)
+  export SCREENS_DENSITY=$here/../target/bin/density
+fi
+cd "$here/build"
+SCREENS_LIB=$here/../target/staticlib CARGO_NET_OFFLINE=true RUSTFLAGS="-A warnings" \
+  cargo build -q --release -p compare --target-dir target
+# The original warns about poor panels on standard error.
+target/release/compare "$@" 2> compare.log || { grep -v '^warning: .* aspect ratio' compare.log >&2; exit 1; }

@@ -1,0 +1,189 @@
+//! Makes cases with the original's answers, and answers stored cases again. `oracle` alone prints the commands.
+use cfsem::physics::boundary_element as be;
+use oracle::eval::{self, eval};
+use oracle::{calls, cases, generate, selfcheck};
+use std::collections::BTreeMap;
+use std::io::{BufWriter, Read, Write};
+use std::process::ExitCode;
+
+const USAGE: &str =
+    "oracle selfcheck                           document 01's bench sheet, findings, constants, tables, poor panels
+oracle generate SEED FILE [SCALE] [KIND]   cases by seed (FORMAT.md)
+oracle check FILE                          answers the file's cases again and compares
+oracle statistics FILE                     refusals and sorts of results by kind
+oracle show FILE [KIND] [COUNT]            cases in hexadecimal
+oracle density < FILE                      the program `density`";
+
+fn main() -> ExitCode {
+    let words: Vec<String> = std::env::args().skip(1).collect();
+    let words: Vec<&str> = words.iter().map(String::as_str).collect();
+    let good = match words[..] {
+        ["selfcheck"] => selfcheck::run(),
+        [selfcheck::WARN, seed, count] => {
+            selfcheck::warn(seed.parse().unwrap(), count.parse().unwrap());
+            true
+        }
+        ["generate", seed, file, ref rest @ ..] => {
+            let scale = rest.first().map_or(1.0, |s| s.parse().expect("SCALE"));
+            let only = rest.get(1).map(|name| named(name));
+            generate_file(seed.parse().expect("SEED"), file, scale, only);
+            true
+        }
+        ["check", file] => check(file),
+        ["statistics", file] => {
+            statistics(file);
+            true
+        }
+        ["show", file, ref rest @ ..] => {
+            let only = rest.first().map(|name| named(name));
+            show(file, only, rest.get(1).map_or(10, |n| n.parse().expect("COUNT")));
+            true
+        }
+        ["density"] => {
+            let mut bytes = vec![];
+            std::io::stdin().read_to_end(&mut bytes).unwrap();
+            let written = calls::density_program(&bytes);
+            std::io::stdout().write_all(&written).unwrap();
+            true
+        }
+        _ => {
+            println!("{USAGE}");
+            false
+        }
+    };
+    if good { ExitCode::SUCCESS } else { ExitCode::FAILURE }
+}
+
+fn named(name: &str) -> u32 {
+    eval::kind(name).unwrap_or_else(|| panic!("no such kind: {name}"))
+}
+
+fn each_case(file: &str, each: impl FnMut(u32, &[u64], &[u64])) {
+    cases::read(&std::fs::read(file).expect(file), each);
+}
+
+fn generate_file(seed: u64, file: &str, scale: f64, only: Option<u32>) {
+    let mut out = BufWriter::new(std::fs::File::create(file).expect(file));
+    let mut counts = BTreeMap::new();
+    cases::write_mark(&mut out).unwrap();
+    generate::all(seed, scale, only, |kind, input, results| {
+        let (count, words) = counts.entry(kind).or_insert((0, 0));
+        *count += 1;
+        *words += 2 + input.len() + results.len();
+        cases::write(&mut out, kind, input, results).unwrap();
+    });
+    for (kind, (count, words)) in counts {
+        println!(
+            "{kind:3} {:18} {count:6} cases {:8} kB",
+            eval::name(kind),
+            words * 8 / 1024
+        );
+    }
+}
+
+fn check(file: &str) -> bool {
+    let (mut count, mut differ) = (0, BTreeMap::new());
+    each_case(file, |kind, input, results| {
+        count += 1;
+        if eval(kind, input) != results {
+            *differ.entry(eval::name(kind)).or_insert(0) += 1;
+        }
+    });
+    for (name, n) in &differ {
+        println!("{name:18} {n:6} differ");
+    }
+    println!("{count} cases, {} differ", differ.values().sum::<i32>());
+    differ.is_empty()
+}
+
+fn statistics(file: &str) {
+    let mut sorts: BTreeMap<u32, BTreeMap<String, usize>> = BTreeMap::new();
+    each_case(file, |kind, input, results| {
+        let name = eval::name(kind);
+        let counts = sorts.entry(kind).or_default();
+        *counts.entry(sort(name, results)).or_default() += 1;
+        let start = match name {
+            "mesh_test" | "densities" => 0,
+            "quadrature" | "matrix" | "move" => 1,
+            _ => return,
+        };
+        if results[0] == 0 {
+            for what in peculiar(&eval::In::new(&input[start..]).mesh()) {
+                *counts.entry(what.to_string()).or_default() += 1;
+            }
+        }
+    });
+    for (kind, counts) in sorts {
+        println!("{:18} {counts:?}", eval::name(kind));
+    }
+}
+
+/// What is out of the ordinary in an accepted mesh.
+fn peculiar(mesh: &calls::Mesh) -> Vec<&'static str> {
+    let triangles = || (0..mesh.panels()).map(|i| mesh.triangle(i));
+    let indices = || (0..mesh.panels()).map(|i| mesh.indices(i));
+    let coordinates = || mesh.x.iter().chain(&mesh.y).chain(&mesh.z);
+    let area = |t: [[f64; 3]; 3]| be::calc_tri_area(t[0], t[1], t[2]);
+    let sorts = [
+        ("no node", mesh.nodes() == 0),
+        ("no panel", mesh.panels() == 0),
+        ("NaN coordinate", coordinates().any(|x| x.is_nan())),
+        ("infinite coordinate", coordinates().any(|x| x.is_infinite())),
+        ("NaN area", triangles().any(|t| area(t).is_nan())),
+        ("infinite area", triangles().any(|t| area(t).is_infinite())),
+        (
+            "area within 1e-28 of the limit",
+            triangles().any(|t| (area(t) - 1e-14).abs() < 1e-28),
+        ),
+        ("poor panel", calls::poor_panels(mesh) > 0),
+        (
+            "index twice in a panel",
+            indices().any(|[a, b, c]| a == b || b == c || c == a),
+        ),
+        (
+            "node without panel",
+            (0..mesh.nodes()).any(|k| indices().all(|panel| !panel.contains(&k))),
+        ),
+        ("4096 nodes", mesh.nodes() == calls::MAX_NODES),
+        ("8192 panels", mesh.panels() == calls::MAX_PANELS),
+    ];
+    sorts
+        .into_iter()
+        .filter(|(_, has)| *has)
+        .map(|(what, _)| what)
+        .collect()
+}
+
+/// The refusal's number, the printed refusal, or the sort of number that the first result is.
+fn sort(name: &str, results: &[u64]) -> String {
+    match name {
+        "coupling" | "block" | "entry" | "mesh_test" | "quadrature" | "densities" | "matrix" | "energy2"
+        | "energy1" | "flux" | "interaction" | "move" | "row_matrix" | "row_map" | "read_file" | "display"
+        | "coupling_regular" | "contact" | "identical" | "is_far" => results[0].to_string(),
+        "steps" => format!("{} class {}", results[0], results[1]),
+        "density_program" => {
+            let mut text = [
+                results[1].to_le_bytes(),
+                *results.get(2).map(|w| w.to_le_bytes()).get_or_insert([0; 8]),
+            ]
+            .concat();
+            text.truncate(results[0] as usize);
+            let line = String::from_utf8_lossy(&text).lines().next().unwrap_or("").to_string();
+            if line.starts_with('r') { line } else { "printed".into() }
+        }
+        _ => {
+            let x = f64::from_bits(results[0]);
+            format!("{:?}", x.classify())
+        }
+    }
+}
+
+fn show(file: &str, only: Option<u32>, mut left: usize) {
+    let hex = |words: &[u64]| words.iter().map(|w| format!("{w:016x}")).collect::<Vec<_>>().join(" ");
+    each_case(file, |kind, input, results| {
+        if left > 0 && only.is_none_or(|k| k == kind) {
+            left -= 1;
+            println!("{} {} -> {}", eval::name(kind), hex(input), hex(results));
+        }
+    });
+}

@@ -1,0 +1,388 @@
+//! Checks the oracle by itself: document 01's bench sheet, the findings of docs/DIFFERENCES.md, the constants and tables
+//! that a port needs, and the count of poor panels against the count in the original's own warning.
+use crate::calls::{self, Mesh};
+use crate::inner::{self, Panel, Triangle};
+use crate::{canonical, generate, rng::Rng};
+use cfsem::physics::boundary_element as be;
+use num_traits::standin;
+use std::hint::black_box;
+
+const UNIT: Triangle = [[0.0; 3], [1.0, 0.0, 0.0], [0.0, 1.0, 0.0]];
+const THREE_FOUR_FIVE: Triangle = [[0.0; 3], [3.0, 0.0, 0.0], [0.0, 4.0, 0.0]];
+
+fn hex(x: f64) -> String {
+    format!("{:016x}", canonical(x))
+}
+
+/// Prints a line a check and counts those that differ.
+struct Sheet {
+    differ: usize,
+}
+
+impl Sheet {
+    fn line(&mut self, what: &str, due: &str, got: impl std::fmt::Display) {
+        let got = got.to_string();
+        let verdict = if got == due { "ok" } else { "DIFFERS" };
+        self.differ += (got != due) as usize;
+        println!("{verdict:8} {what}: {got}");
+        if got != due {
+            println!("         due: {due}");
+        }
+    }
+}
+
+/// Whether every line that has a due answer got it.
+pub fn run() -> bool {
+    let mut sheet = Sheet { differ: 0 };
+    bench_sheet(&mut sheet);
+    findings(&mut sheet);
+    warnings(&mut sheet);
+    constants();
+    standins_against_std();
+    println!("\n{} lines differ", sheet.differ);
+    sheet.differ == 0
+}
+
+fn bench_sheet(sheet: &mut Sheet) {
+    println!("Document 01's bench sheet");
+    let small = 2f64.powi(-30);
+    let fused = black_box(1.0 + small).mul_add(black_box(1.0 - small), black_box(-1.0));
+    sheet.line("fused (1 + 2^-30)(1 - 2^-30) - 1", &hex(-2f64.powi(-60)), hex(fused));
+    sheet.line("sqrt(-0)", &hex(-0.0), hex(black_box(-0.0f64).sqrt()));
+    sheet.line("sqrt 2", "3ff6a09e667f3bcd", hex(black_box(2.0f64).sqrt()));
+
+    let corner = |y: f64| calls::mesh_refusal(&Mesh::of_panel([[0.0; 3], [1.0, 0.0, 0.0], [0.0, y, 0.0]]));
+    sheet.line("corner (0,2e-14,0)", "0", corner(2e-14));
+    sheet.line("corner (0,1.9e-14,0)", "4", corner(1.9e-14));
+    sheet.line("NaN area", "0", corner(f64::NAN));
+    sheet.line("infinite area", "0", corner(f64::INFINITY));
+
+    let raised = |z: f64| THREE_FOUR_FIVE.map(|p| [p[0], p[1], z]);
+    let class = |z: f64| ["identical", "far", "far", "near"][inner::class(THREE_FOUR_FIVE, raised(z)) as usize];
+    sheet.line("3-4-5 panel raised by 5", "near", class(5.0));
+    sheet.line(
+        "3-4-5 panel raised by 5.000000000000001",
+        "far",
+        class(5.000000000000001),
+    );
+    // The same from the public coupling: only the far rule depends on the quadrature rule.
+    let coupling = |rule: u64, z: f64| canonical(calls::coupling(rule, THREE_FOUR_FIVE, raised(z)).unwrap());
+    let same = |z: f64| (2..=5).all(|rule| coupling(rule, z) == coupling(1, z));
+    sheet.line("couplings equal under all rules, raised by 5", "true", same(5.0));
+    sheet.line(
+        "couplings equal under all rules, raised by 5.000000000000001",
+        "false",
+        same(5.000000000000001),
+    );
+
+    let halves =
+        "[[[1.0, 0.0, 0.0], [0.5, 0.5, 0.0], [0.0, 0.0, 0.0]], [[0.5, 0.5, 0.0], [0.0, 1.0, 0.0], [0.0, 0.0, 0.0]]]";
+    sheet.line(
+        "unit panel splits between corners 1 and 2",
+        halves,
+        format!("{:?}", inner::bisect(UNIT)),
+    );
+    let map = [1.0, 2.0, 3.0, 4.0];
+    let flux = calls::flux(&map, &[5.0, 6.0], 2);
+    sheet.line(
+        "map 1 2 3 4, coefficients 5 6: flux",
+        "Ok([17.0, 39.0])",
+        format!("{flux:?}"),
+    );
+    let energy = calls::interaction(&map, &[1.0, 1.0], &[5.0, 6.0]);
+    sheet.line("values 1 1: energy", "Ok(56.0)", format!("{energy:?}"));
+    sheet.line(
+        "no sources, one output",
+        "Err(8)",
+        format!("{:?}", calls::flux(&[], &[], 1)),
+    );
+    let identity = [1.0, 0.0, 0.0, 1.0];
+    let energy = calls::energy1(&identity, &[3.0, 4.0]);
+    sheet.line("identity 2 by 2, values 3 4: energy", "Ok(12.5)", format!("{energy:?}"));
+    let energy = calls::energy2(&identity, &[3.0, 4.0], &[3.0, 4.0]);
+    sheet.line("the same with two vectors", "Ok(25.0)", format!("{energy:?}"));
+
+    let mut display = |what: &str, x: f64, due: &str| {
+        sheet.line(&format!("display of {what}"), due, format!("{:?}", calls::display(x)));
+    };
+    let past = |k: u64| f64::from_bits(1e6f64.to_bits() + k);
+    display("1/1024", 1.0 / 1024.0, "Ok(976563)");
+    display("-1/1024", -1.0 / 1024.0, "Ok(-976563)");
+    display("-0", -0.0, "Ok(0)");
+    display("1e6", 1e6, "Ok(1000000000000000)");
+    display("1e6 and one place (1e15 + 0.12)", past(1), "Ok(1000000000000000)");
+    display("1e6 and five places (1e15 + 0.58)", past(5), "Err(16)");
+    display("infinity", f64::INFINITY, "Err(16)");
+
+    let file = calls::write_file(&Mesh::of_panel(UNIT), Some(&[1.0, 2.0, 4.0])).unwrap();
+    sheet.line("length of the sample file", "111", file.len());
+    let printed = String::from_utf8(calls::density_program(&file)).unwrap();
+    let due = "PNL 1 3 1\n0 c008000000000000 3ff0000000000000 0000000000000000\n";
+    sheet.line(
+        "density of the sample file",
+        &format!("{due:?}"),
+        format!("{printed:?}"),
+    );
+    let empty = calls::matrix(1, &Mesh::default(), 0);
+    sheet.line("matrix of the empty mesh", "Ok([])", format!("{empty:?}"));
+    let mut mesh = Mesh::of_panel([[0.0; 3], [1.0, 0.0, 0.0], [1.0, 0.0, 0.0]]);
+    mesh.add_panel([0, 1, 9]);
+    sheet.line(
+        "zero area in panel 0, missing node in panel 1",
+        "3",
+        calls::mesh_refusal(&mesh),
+    );
+    mesh.b = vec![0; 65536];
+    mesh.c = mesh.b.clone();
+    mesh.a = mesh.b.clone();
+    sheet.line(
+        "file of 65536 panels",
+        "None",
+        format!("{:?}", calls::write_file(&mesh, None)),
+    );
+}
+
+fn findings(sheet: &mut Sheet) {
+    println!("\nWhat the Rust does that may surprise");
+    let unit = Panel::new(UNIT);
+    sheet.line(
+        "contact of the unit panel at (-1e155,-1e155,0)",
+        "true",
+        unit.contact([-1e155, -1e155, 0.0]),
+    );
+    sheet.line(
+        "contact of the unit panel at (-1e153,-1e153,0)",
+        "false",
+        unit.contact([-1e153, -1e153, 0.0]),
+    );
+    sheet.line(
+        "its potential at (0.25,1e-170,0)",
+        "inf",
+        unit.potential([0.25, 1e-170, 0.0]),
+    );
+    let finite = [[0.25, 0.0, 0.0], [0.25, 1e-100, 0.0], [0.0; 3]].map(|p| unit.potential(p).is_finite());
+    sheet.line(
+        "finite at (0.25,0,0), (0.25,1e-100,0), corner 0",
+        "[true, true, true]",
+        format!("{finite:?}"),
+    );
+    sheet.line(
+        "its gradient at corner 0",
+        "[NaN, NaN, NaN]",
+        format!("{:?}", unit.gradient([0.0; 3])),
+    );
+    sheet.line(
+        "its gradient at (0.25,0,0)",
+        "[NaN, inf, NaN]",
+        format!("{:?}", unit.gradient([0.25, 0.0, 0.0])),
+    );
+    sheet.line(
+        "asinh of the least numbers",
+        "[0.0, -0.0]",
+        format!("{:?}", [5e-324, -5e-324].map(standin::asinh)),
+    );
+
+    let repeated = |indices: [usize; 3]| {
+        let mut mesh = Mesh::default();
+        mesh.add_node([0.0; 3]);
+        mesh.add_node([100.1, 100.3, 0.0]);
+        mesh.add_panel(indices);
+        calls::mesh_refusal(&mesh)
+    };
+    let got = [[0, 1, 1], [0, 1, 0], [0, 0, 1]].map(repeated);
+    sheet.line(
+        "nodes (0,0,0), (100.1,100.3,0), panels 0 1 1, 0 1 0, 0 0 1",
+        "[0, 4, 4]",
+        format!("{got:?}"),
+    );
+    let area = |t: Triangle| {
+        format!(
+            "{:?} {}",
+            be::calc_tri_area(t[0], t[1], t[2]),
+            calls::mesh_refusal(&Mesh::of_panel(t))
+        )
+    };
+    let wide = [[-1.7e308, 0.0, 0.0], [1.7e308, 0.0, 0.0], [0.0, 1.0, 0.0]];
+    sheet.line(
+        "area and refusal of (-1.7e308,0,0), (1.7e308,0,0), (0,1,0)",
+        "NaN 0",
+        area(wide),
+    );
+    let large = [[0.0; 3], [1e200, 1e200, 0.0], [1e200, 1e200, 1.0]];
+    sheet.line(
+        "area and refusal of (0,0,0), (1e200,1e200,0), (1e200,1e200,1)",
+        "inf 0",
+        area(large),
+    );
+
+    let point = [[0.0; 3]; 3];
+    let both = [inner::identical(point, UNIT), inner::identical(UNIT, point)];
+    sheet.line(
+        "one corner three times, identical to the unit panel, and the other way",
+        "[true, false]",
+        format!("{both:?}"),
+    );
+    let nan = [[f64::NAN; 3]; 3];
+    sheet.line(
+        "class of an all-NaN panel and the unit panel (2: far)",
+        "2",
+        inner::class(nan, UNIT),
+    );
+    let inf = f64::INFINITY;
+    let half = inner::bisect([[inf, 0.0, 0.0], [inf, 1.0, 0.0], [0.0; 3]])[0];
+    sheet.line(
+        "first half where edge 0 is NaN long (split there)",
+        "[[inf, 0.0, 0.0], [inf, 0.5, 0.0], [0.0, 0.0, 0.0]]",
+        format!("{half:?}"),
+    );
+
+    let mut apart = Mesh::of_panel(UNIT);
+    apart.add_node([9.0; 3]);
+    let count = |node: usize, place: [f64; 3]| calls::move_node(1, &apart, &[7.0; 16], node, place).map(|m| m.count);
+    sheet.line(
+        "cells of a move to (NaN,0,0)",
+        "Ok(15)",
+        format!("{:?}", count(0, [f64::NAN, 0.0, 0.0])),
+    );
+    sheet.line(
+        "cells of a move of a node without panels",
+        "Ok(0)",
+        format!("{:?}", count(3, [0.0; 3])),
+    );
+    sheet.line(
+        "a move onto another corner",
+        "Err(4)",
+        format!("{:?}", count(0, [1.0, 0.0, 0.0])),
+    );
+
+    let numbers = [0.0, -0.0, f64::NAN, 1.0];
+    let table = |f: fn(f64, f64) -> f64| {
+        let row = |a: f64| {
+            numbers
+                .map(|b| format!("{:?}", f(black_box(a), black_box(b))))
+                .join(" ")
+        };
+        numbers.map(row).join(", ")
+    };
+    sheet.line(
+        "min of 0 -0 NaN 1 with each of them",
+        "0.0 0.0 0.0 0.0, -0.0 -0.0 -0.0 -0.0, 0.0 -0.0 NaN 1.0, 0.0 -0.0 1.0 1.0",
+        table(f64::min),
+    );
+    sheet.line(
+        "max of 0 -0 NaN 1 with each of them",
+        "0.0 0.0 0.0 1.0, -0.0 -0.0 -0.0 1.0, 0.0 -0.0 NaN 1.0, 1.0 1.0 1.0 1.0",
+        table(f64::max),
+    );
+    let clamped = [-0.0, f64::NAN, -1.0, 2.0].map(|x: f64| black_box(x).clamp(black_box(0.0), black_box(1.0)));
+    sheet.line(
+        "clamp of -0, NaN, -1, 2 to 0 and 1",
+        "[-0.0, NaN, 0.0, 1.0]",
+        format!("{clamped:?}"),
+    );
+}
+
+/// The command under which the oracle starts itself to have its standard error read.
+pub const WARN: &str = "warn";
+const MESHES: usize = 4000;
+
+fn meshes(seed: u64, count: usize) -> impl Iterator<Item = Mesh> {
+    let mut r = Rng(seed);
+    (0..count).map(move |_| generate::small_mesh(&mut r))
+}
+
+/// Has the original test each mesh, which writes its warning; a line `mesh` goes before.
+pub fn warn(seed: u64, count: usize) {
+    for mesh in meshes(seed, count) {
+        eprintln!("mesh");
+        let _ = mesh.view();
+    }
+}
+
+/// The count of poor panels against the number in the original's warning.
+fn warnings(sheet: &mut Sheet) {
+    println!("\nPoor panels");
+    let seed = 1;
+    let program = std::env::current_exe().expect("the path of this program");
+    let child = std::process::Command::new(program)
+        .args([WARN, &seed.to_string(), &MESHES.to_string()])
+        .output()
+        .expect("the oracle starts itself");
+    let text = String::from_utf8(child.stderr).expect("text");
+    let mut warned: Vec<u64> = vec![];
+    for line in text.lines() {
+        let number = line.strip_prefix("warning: ").and_then(|rest| rest.split(' ').next());
+        match number.map(|n| n.parse::<u64>()) {
+            None if line == "mesh" => warned.push(0),
+            Some(Ok(n)) => *warned.last_mut().expect("a mesh before") += n,
+            _ => panic!("{line}"),
+        }
+    }
+    let counts: Vec<u64> = meshes(seed, MESHES)
+        .map(|mesh| calls::mesh_test(&mesh).unwrap_or(0))
+        .collect();
+    let accepted = meshes(seed, MESHES)
+        .filter(|mesh| calls::mesh_refusal(mesh) == 0)
+        .count();
+    println!(
+        "{accepted} of {MESHES} meshes accepted, {} with poor panels, {} poor panels in all",
+        counts.iter().filter(|&&n| n > 0).count(),
+        counts.iter().sum::<u64>()
+    );
+    let differ = counts.iter().zip(&warned).filter(|(a, b)| a != b).count();
+    sheet.line("meshes seen by the original", &MESHES.to_string(), warned.len());
+    sheet.line("meshes whose count is not the warning's", "0", differ);
+}
+
+fn constants() {
+    println!("\nConstants and tables");
+    println!("MU_0 {}  MU0_OVER_4PI {}", hex(cfsem::MU_0), hex(cfsem::MU0_OVER_4PI));
+    println!(
+        "4*sqrt(3) {}  1e-14 {}  1e-3 {}  1e-12 {}  64*EPSILON {}",
+        hex(4.0 * 3f64.sqrt()),
+        hex(1e-14),
+        hex(1e-3),
+        hex(1e-12),
+        hex(64.0 * f64::EPSILON)
+    );
+    for rule in 1..=5 {
+        println!("rule {rule}: weight, u, v, (1 - u) - v");
+        for [weight, u, v] in inner::table(inner::kind(rule).unwrap()) {
+            println!("  {} {} {} {}", hex(*weight), hex(*u), hex(*v), hex(1.0 - u - v));
+        }
+    }
+    let reciprocals: Vec<String> = (1..=45)
+        .step_by(2)
+        .map(|k| format!("1/{k} {}", hex(1.0 / k as f64)))
+        .collect();
+    println!("{}", reciprocals.join("  "));
+    println!(
+        "coupling of the unit panel with itself {}",
+        hex(calls::coupling(1, UNIT, UNIT).unwrap())
+    );
+}
+
+fn standins_against_std() {
+    let relative = |a: f64, b: f64| {
+        if a == b || a.is_nan() && b.is_nan() {
+            0.0
+        } else {
+            ((a - b) / b).abs() * 2f64.powi(53)
+        }
+    };
+    let mut r = Rng(5);
+    let (mut ln, mut asinh, mut atan2) = (0.0f64, 0.0f64, 0.0f64);
+    for _ in 0..1_000_000 {
+        let any = f64::from_bits(r.word() >> 1);
+        if any.is_finite() {
+            ln = ln.max(relative(standin::ln(any), any.ln()));
+        }
+        let x = r.signed() * 2f64.powi(r.range(-40, 40) as i32);
+        let y = r.signed() * 2f64.powi(r.range(-40, 40) as i32);
+        asinh = asinh.max(relative(standin::asinh(x), x.asinh()));
+        atan2 = atan2.max(relative(standin::atan2(y, x), y.atan2(x)));
+    }
+    println!(
+        "\nLargest relative difference of the stand-ins from std in units of 2^-53, a million points each: ln {ln:.1}, asinh {asinh:.1}, atan2 {atan2:.1}"
+    );
+}
