@@ -3,3 +3,4 @@ pub mod Nearest
 pub mod Pack
 pub mod Pattern
 pub mod Signs
+pub mod Product

@@ -14,7 +14,6 @@ pub mod Finishing
 pub mod Jam
 pub mod Larger
 pub mod Meaning
-pub mod Product
 pub mod Round
 pub mod Shifts
 pub mod Value

@@ -2,7 +2,8 @@
 use mathlib.Core.Path.{_≡_}
 use mathlib.Core.Bool.{Bool, true, false, _&&_}
 use lib.Dec.{leb, ltb}
-use lib.Ieee.{Float, binary64, toBits, sum, unlike}
+use lib.Ieee.{Float, binary64, toBits, sum, unlike, eq, ne}
+use Rattle.binary64.specs.Binary64.{plusZero}
 use lib.Ieee.Exact.{HasValue}
 use Rattle.fused_multiply_add.specs.Parts.{mag}
 use Prim.Native.Nat.{ℕ, _+_, _-_, _*_, _/_, _%_, _^_, _≤_, _<_}
@@ -52,6 +53,10 @@ central e = leb 768 e && ltb e 1280
 -- both factors' fields are central, z is k places above the product's last digit, and t's leading digit 116 - s places
 abbrev pub usable : ℕ → ℕ → ℕ → ℕ → Bool
 usable ex ey k s = (central ex && central ey) && (ltb k 64 && (leb 1 s && ltb s 63))
+
+-- z is a zero, and p is none
+unfoldable pub loneProduct : Float → Float → Bool
+loneProduct p z = eq z plusZero && ne p plusZero
 
 -- x's field is central, z is k places above the square's last digit, and t's last digit m places
 abbrev pub reach : ℕ → ℕ → ℕ → Bool

@@ -118,40 +118,12 @@ fn pack(sig: u64, exp: u64) -> u64
     }
 }
 
-// The upper and the lower word of a product. Each is a function of its own: LLVM sees through each by
-// itself and makes one `mul` instruction of the two, and does not where one function has both.
-fn high_product(u: u64, v: u64) -> u64
-    ensures { λ r. ⌜ r ≡ u * v / 2 ^ 64 ⌝ }
-{
-    let u0 = u & 0xffff_ffff;
-    let u1 = u >> 32;
-    let v0 = v & 0xffff_ffff;
-    let v1 = v >> 32;
-    let w0 = u0 * v0;
-    let t = u1 * v0 + (w0 >> 32);
-    let w1 = (t & 0xffff_ffff) + u0 * v1;
-    u1 * v1 + (t >> 32) + (w1 >> 32)
-}
-
-fn low_product(u: u64, v: u64) -> u64
-    ensures { λ r. ⌜ r ≡ u * v % 2 ^ 64 ⌝ }
-{
-    let u0 = u & 0xffff_ffff;
-    let u1 = u >> 32;
-    let v0 = v & 0xffff_ffff;
-    let v1 = v >> 32;
-    let w0 = u0 * v0;
-    let t = u1 * v0 + (w0 >> 32);
-    let w1 = (t & 0xffff_ffff) + u0 * v1;
-    (w1 << 32) | (w0 & 0xffff_ffff)
-}
-
 fn product(u: u64, v: u64) -> Wide
     ensures { λ r. ⌜ r .hi * 2 ^ 64 + r .lo ≡ u * v ⌝ }
 {
     Wide {
-        hi: high_product(u, v),
-        lo: low_product(u, v),
+        hi: binary64::high_product(u, v),
+        lo: binary64::low_product(u, v),
     }
 }
 
@@ -670,12 +642,25 @@ fn unguided(x: f64, y: f64, z: f64) -> f64
     z + rest_float(offset(n, f), ex + ey - 1020)
 }
 
+// z is a zero that changes nothing of the rounded product p. Where p is a zero too, the exact product's sign
+// decides.
+fn lone_product(p: f64, z: f64) -> bool
+    ensures { λ r. ⌜ r ≡ Guided.loneProduct p z ⌝ }
+{
+    (z == 0.0) & (p != 0.0)
+}
+
 // fma for every input. The hardware's t = x * y + z says where the exact sum's leading digit should be, which
-// saves the normalising shifts of the integer form; most inputs need no other branch.
+// saves the normalising shifts of the integer form; most inputs need no other branch. A flat screen has many a
+// z of 0, so that is tested first.
 pub fn mul_add(x: f64, y: f64, z: f64) -> f64
     ensures { λ r. ⌜ r ≡ fma x y z ⌝ }
 {
-    let t = x * y + z;
+    let p = x * y;
+    if lone_product(p, z) {
+        return p;
+    }
+    let t = p + z;
     if t != t {
         return fused_integer(x, y, z);
     }
@@ -699,7 +684,7 @@ fn rest_word(u: u64, w: u64, c: u64, k: u64, m: u64) -> u64
     requires { ⌜ (c * 2 ^ m < u * u + w * 2 ^ k + 2 ^ 63) × (u * u + w * 2 ^ k < c * 2 ^ m + 2 ^ 63) ⌝ }
     ensures { λ r. ⌜ r + c * 2 ^ m ≡ u * u + w * 2 ^ k + 2 ^ 63 ⌝ }
 {
-    let lo = std::num::wrapping_add_u64(low_product(u, u), w << k);
+    let lo = std::num::wrapping_add_u64(binary64::low_product(u, u), w << k);
     let d = std::num::wrapping_sub_u64(lo, c << m);
     std::num::wrapping_add_u64(d, 0x8000_0000_0000_0000)
 }
@@ -722,7 +707,11 @@ fn reach(ex: u64, k: u64, m: u64) -> bool
 pub fn square_add(x: f64, z: f64) -> f64
     ensures { λ r. ⌜ r ≡ fma x x z ⌝ }
 {
-    let t = x * x + z;
+    let p = x * x;
+    if lone_product(p, z) {
+        return p;
+    }
+    let t = p + z;
     if t != t {
         return mul_add(x, x, z);
     }

@@ -1,43 +1,27 @@
--- q * (q + 1) by the two halves of q, as `pronic` computes it; and the squares of odd numbers, which say that r is nearest to the root of n exactly where
+-- q * (q + 1) in base 2 ^ 52, as `pronic` gives it; and the squares of odd numbers, which say that r is nearest to the root of n exactly where
 -- n ≤ r(r + 1) and r(r - 1) < n.
 use mathlib.Core.Path.{_≡_, refl, ap, _∙_, subst}
 use Prim.Native.Nat.{ℕ, zero, suc, _+_, _-_, _*_, _/_, _%_, _^_, _≤_, _<_}
 use native.Mathlib.Numerals.{add-one}
-use native.Mathlib.Nat.{suc-mul, mul-suc, add-assoc, add-comm, add-left-comm, mul-assoc, mul-comm, mul-left-comm, mul-add, add-mul, mul-le-mul}
+use native.Mathlib.Nat.{suc-mul, mul-suc, add-assoc, add-comm, add-left-comm, mul-assoc, mul-comm, mul-left-comm, mul-add, add-mul, mul-le-mul, lt-of-le-of-lt}
 use native.Mathlib.Omega.{arith}
 use Rattle.square_root.specs.Nearest.{NearRoot}
 
 pub next-times : (q : ℕ) → q * (q + 1) ≡ q * q + q
 next-times q = ap (λ (x : ℕ). q * x) (add-one q) ∙ mul-suc q q
 
-ring : (P h l : ℕ) → (h * P + l) * (h * P + l) ≡ h * h * (P * P) + h * l * (P + P) + l * l
-ring P h l = simp (mul-add, add-mul, mul-assoc, mul-comm, mul-left-comm, add-assoc, add-comm, add-left-comm) refl
+pub pronic-lt : (q : ℕ) → q ≤ 2 ^ 53 → q * (q + 1) < 2 ^ 107
+pronic-lt q h = lt-of-le-of-lt (mul-le-mul h (next q h)) (lib.Dec.lit< tt)
+  where
+    next : (q : ℕ) → q ≤ 2 ^ 53 → q + 1 ≤ 2 ^ 53 + 1
+    next q h = omega arith
 
--- the product by the two parts of q
-pub parts : (q : ℕ) → q * (q + 1) ≡ q / 2 ^ 27 * (q / 2 ^ 27) * 2 ^ 54 + q / 2 ^ 27 * (q % 2 ^ 27) * 2 ^ 28 + q % 2 ^ 27 * (q % 2 ^ 27) + q
-parts q =
-    let e : q / 2 ^ 27 * 2 ^ 27 + q % 2 ^ 27 ≡ q = omega arith in
-    next-times q ∙ ap (λ (x : ℕ). x + q)
-    (subst (λ (x : ℕ). x * x ≡ q / 2 ^ 27 * (q / 2 ^ 27) * 2 ^ 54 + q / 2 ^ 27 * (q % 2 ^ 27) * 2 ^ 28 + q % 2 ^ 27 * (q % 2 ^ 27)) e (ring (2 ^ 27) (q / 2 ^ 27) (q % 2 ^ 27)))
+-- two words of a number, in base 2 ^ 52
+pub high-is : (p : ℕ) → p / 2 ^ 64 * 4096 + p % 2 ^ 64 / 2 ^ 52 ≡ p / 2 ^ 52
+high-is p = omega arith
 
-pub part-sizes : (q : ℕ) → q ≤ 2 ^ 53 → (q / 2 ^ 27 * (q / 2 ^ 27) ≤ 2 ^ 52) × (q / 2 ^ 27 * (q % 2 ^ 27) ≤ 2 ^ 53) × (q % 2 ^ 27 * (q % 2 ^ 27) ≤ 2 ^ 54)
-part-sizes q h =
-    let a : q / 2 ^ 27 ≤ 2 ^ 26 = omega arith in
-    let b : q % 2 ^ 27 ≤ 2 ^ 27 = omega arith in
-    (mul-le-mul a a, mul-le-mul a b, mul-le-mul b b)
-
--- in base 2 ^ 52
-high-joined : (A B C q p : ℕ) → p ≡ A * 2 ^ 54 + B * 2 ^ 28 + C + q → 4 * A + (B + (C + q) / 2 ^ 28) / 2 ^ 24 ≡ p / 2 ^ 52
-high-joined A B C q p e = omega arith
-
-low-joined : (A B C q p : ℕ) → p ≡ A * 2 ^ 54 + B * 2 ^ 28 + C + q → (B + (C + q) / 2 ^ 28) % 2 ^ 24 * 2 ^ 28 + (C + q) % 2 ^ 28 ≡ p % 2 ^ 52
-low-joined A B C q p e = omega arith
-
-pub high-is : (q : ℕ) → 4 * (q / 2 ^ 27 * (q / 2 ^ 27)) + (q / 2 ^ 27 * (q % 2 ^ 27) + (q % 2 ^ 27 * (q % 2 ^ 27) + q) / 2 ^ 28) / 2 ^ 24 ≡ q * (q + 1) / 2 ^ 52
-high-is q = high-joined (q / 2 ^ 27 * (q / 2 ^ 27)) (q / 2 ^ 27 * (q % 2 ^ 27)) (q % 2 ^ 27 * (q % 2 ^ 27)) q (q * (q + 1)) (parts q)
-
-pub low-is : (q : ℕ) → (q / 2 ^ 27 * (q % 2 ^ 27) + (q % 2 ^ 27 * (q % 2 ^ 27) + q) / 2 ^ 28) % 2 ^ 24 * 2 ^ 28 + (q % 2 ^ 27 * (q % 2 ^ 27) + q) % 2 ^ 28 ≡ q * (q + 1) % 2 ^ 52
-low-is q = low-joined (q / 2 ^ 27 * (q / 2 ^ 27)) (q / 2 ^ 27 * (q % 2 ^ 27)) (q % 2 ^ 27 * (q % 2 ^ 27)) q (q * (q + 1)) (parts q)
+pub low-is : (p : ℕ) → p % 2 ^ 64 % 2 ^ 52 ≡ p % 2 ^ 52
+low-is p = omega arith
 
 -- ---- squares
 double-square : (q : ℕ) → (q + q) * (q + q) ≡ 4 * (q * q)

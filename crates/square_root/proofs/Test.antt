@@ -19,30 +19,13 @@ use Rattle.square_root.specs.Estimate.{isNearRoot, isRoot}
 use Rattle.square_root.proofs.Square.{near-between}
 use Rattle.square_root.proofs.RootPattern.{scaled, root-law}
 
--- ---- `leading_digits`
-cut-number : (n : ℕ) → n % 2 ^ 63 ≤ 0x7ff0_0000_0000_0000 → n / 2 ^ 27 * 2 ^ 27 % 2 ^ 63 ≤ 0x7ff0_0000_0000_0000
-cut-number n h =
-    let k = n / 2 ^ 63 in
-    let j = n % 2 ^ 63 / 2 ^ 27 in
-    let e : n / 2 ^ 27 * 2 ^ 27 ≡ k * 2 ^ 63 + j * 2 ^ 27 = omega arith in
-    let s : j < 2 ^ 36 = omega arith in
-    let m : n / 2 ^ 27 * 2 ^ 27 % 2 ^ 63 ≡ j * 2 ^ 27 = ap (λ (x : ℕ). x % 2 ^ 63) e ∙ below k j s in
-    omega arith
-  where
-    below : (k j : ℕ) → j < 2 ^ 36 → (k * 2 ^ 63 + j * 2 ^ 27) % 2 ^ 63 ≡ j * 2 ^ 27
-    below k j h = omega arith
-
+-- ---- a pattern
 -- a number's pattern is at most an infinity's, without the sign
-number-pattern : (x : Float) → T (fits binary64 x) → T (not (isNan x)) → toBits binary64 x % 2 ^ 63 ≤ 0x7ff0_0000_0000_0000
+pub number-pattern : (x : Float) → T (fits binary64 x) → T (not (isNan x)) → toBits binary64 x % 2 ^ 63 ≤ 0x7ff0_0000_0000_0000
 number-pattern x f n =
     let b = toBits binary64 x in
     let t : T (not (nanBits binary64 b)) = subst (λ (y : Bool). T (not y)) (sym (nanBits-is binary64 b ∙ ap isNan (ofBits-toBits binary64 x f))) n in
     ltb-false 0x7ff0_0000_0000_0000 (b % 2 ^ 63) (sym (nanBits-above binary64 b) ∙ is-false (nanBits binary64 b) t)
-
-pub cut-no-nan : (x : Float) → T (fits binary64 x) → T (not (isNan x)) → T (not (nanBits binary64 (toBits binary64 x / 2 ^ 27 * 2 ^ 27)))
-cut-no-nan x f n =
-    let c = toBits binary64 x / 2 ^ 27 * 2 ^ 27 in
-    subst (λ (b : Bool). T (not b)) (sym (nanBits-above binary64 c)) (le→nltb 0x7ff0_0000_0000_0000 (c % 2 ^ 63) (cut-number (toBits binary64 x) (number-pattern x f n)))
 
 -- ---- `is_near_root`, case by case: p is r * (r + 1)
 module _ (m r : ℕ) where

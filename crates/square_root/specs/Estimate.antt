@@ -16,9 +16,9 @@ inverseRoot b =
     let h = bits b ⊗ half in
     newton h (newton h (bits (0x5fe6_eb50_c7b5_37a9 - b / 2)) (bits 0x3ff8_0399_97ec_1a70)) (bits 0x3ff8_0000_a10f_afa0)
 
--- the first 26 digits of p, whose square is exact; a NaN stays
+-- p to 26 digits, whose square is exact: p + 2^27 p less 2^27 p, nearly
 unfoldable pub leadingDigits : Float → Float
-leadingDigits p = cond (ne p p) p (bits (toBits binary64 p / 2 ^ 27 * 2 ^ 27))
+leadingDigits p = let t = p ⊗ bits 0x41a0_0000_0200_0000 in t ⊖ (t ⊖ p)
 
 -- s + g / (2s + g / 2s), with g = x − s², is nearly √x; y / 2 stands for 1 / 2s
 unfoldable pub corrected : Float → Float → Float → Float
@@ -30,6 +30,13 @@ estimate b = let y = inverseRoot b in corrected (bits b) y (leadingDigits (bits 
 -- its pattern, 0 for a NaN
 unfoldable pub estimateBits : ℕ → ℕ
 estimateBits b = let r = estimate b in cond (ne r r) 0 (toBits binary64 r)
+
+-- the pattern of x without its sign, that of 1 for a NaN; and the estimate from it
+unfoldable pub pattern : Float → ℕ
+pattern x = cond (ne x x) 0x3ff0_0000_0000_0000 (toBits binary64 x % 2 ^ 63)
+
+unfoldable pub guess : Float → Float
+guess x = estimate (pattern x)
 
 -- ---- the test
 -- r is the whole number nearest to the root of n: n ≤ r(r + 1) and r(r − 1) < n

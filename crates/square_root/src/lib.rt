@@ -14,20 +14,17 @@ pub struct Split {
     pub low: u64,
 }
 
-// q * (q + 1), for q up to 2^53. With q = h * 2^27 + l it is
-// (4 * h * h) * 2^52 + h * l * 2^28 + l * l + q, and each of these parts fits 64 bits.
+// q * (q + 1), for q up to 2^53.
 fn pronic(q: u64) -> Split
     requires { ⌜ q ≤ 2 ^ 53 ⌝ }
     ensures { λ r. ⌜ r .high ≡ q * (q + 1) / 2 ^ 52 ⌝ }
     ensures { λ r. ⌜ r .low ≡ q * (q + 1) % 2 ^ 52 ⌝ }
 {
-    let h = q >> 27;
-    let l = q % 0x800_0000;
-    let low = l * l + q;
-    let mid = h * l + (low >> 28);
+    let high = binary64::high_product(q, q + 1);
+    let low = binary64::low_product(q, q + 1);
     Split {
-        high: 4 * (h * h) + (mid >> 24),
-        low: mid % 0x100_0000 * 0x1000_0000 + low % 0x1000_0000,
+        high: high * 4096 + (low >> 52),
+        low: low % 0x10_0000_0000_0000,
     }
 }
 
@@ -71,7 +68,7 @@ fn newton(h: f64, y: f64, c: f64) -> f64
 
 // Nearly 1 / sqrt(x), for the x of the pattern b.
 fn inverse_root(b: u64) -> f64
-    requires { ⌜ b < 0x7ff0_0000_0000_0000 ⌝ }
+    requires { ⌜ b ≤ 0x7ff0_0000_0000_0000 ⌝ }
     ensures { λ r. ⌜ r ≡ Estimate.inverseRoot b ⌝ }
 {
     let h = f64::from_bits(b) * 0.5;
@@ -79,14 +76,12 @@ fn inverse_root(b: u64) -> f64
     newton(h, newton(h, y, 1.5008789), 1.5000006)
 }
 
-// The first 26 digits of p, whose square is exact.
+// p to 26 digits, whose square is exact.
 fn leading_digits(p: f64) -> f64
     ensures { λ r. ⌜ r ≡ Estimate.leadingDigits p ⌝ }
 {
-    if p != p {
-        return p;
-    }
-    f64::from_bits(f64::to_bits(p) / 0x800_0000 * 0x800_0000)
+    let t = p * 134217729.0;
+    t - (t - p)
 }
 
 // s moved by (x - s * s) / (2 * s), to the second order. y is nearly 1 / sqrt(x).
@@ -99,7 +94,7 @@ fn corrected(x: f64, y: f64, s: f64) -> f64
 
 // Nearly the root of x, and nearly always the nearest float.
 fn estimate(b: u64) -> f64
-    requires { ⌜ b < 0x7ff0_0000_0000_0000 ⌝ }
+    requires { ⌜ b ≤ 0x7ff0_0000_0000_0000 ⌝ }
     ensures { λ r. ⌜ r ≡ Estimate.estimate b ⌝ }
 {
     let x = f64::from_bits(b);
@@ -187,4 +182,47 @@ pub fn sqrt(x: f64) -> f64
         return x;
     }
     0.0 / 0.0
+}
+
+// ---- many roots: the estimates in one loop without a branch, and then the tests
+
+// The pattern of x without its sign, that of 1 for a NaN.
+fn pattern(x: f64) -> u64
+    ensures { λ r. ⌜ r ≡ Estimate.pattern x ⌝ }
+    ensures { λ r. ⌜ r ≤ 0x7ff0_0000_0000_0000 ⌝ }
+{
+    if x != x {
+        return 0x3ff0_0000_0000_0000;
+    }
+    f64::to_bits(x) % 0x8000_0000_0000_0000
+}
+
+// Nearly the root of a normal number x, and some number for any other.
+pub fn guess(x: f64) -> f64
+    ensures { λ r. ⌜ r ≡ Estimate.guess x ⌝ }
+{
+    estimate(pattern(x))
+}
+
+// The root of x, whatever g is; sooner if g is the root of a normal number.
+pub fn checked(x: f64, g: f64) -> f64
+    ensures { λ r. ⌜ r ≡ Spec.sqrt x ⌝ }
+{
+    if x != x {
+        return x;
+    }
+    if g != g {
+        return sqrt(x);
+    }
+    let b = f64::to_bits(x);
+    if b < 0x10_0000_0000_0000 {
+        return sqrt(x);
+    }
+    if b >= 0x7ff0_0000_0000_0000 {
+        return sqrt(x);
+    }
+    if is_root(b, f64::to_bits(g)) {
+        return g;
+    }
+    sqrt(x)
 }

@@ -4,16 +4,18 @@ use mathlib.Core.Path.{_≡_, refl, sym, ap, _∙_, subst}
 use mathlib.Core.Logic.{_⊎_, inl, inr}
 use mathlib.Core.Bool.{Bool, true, false, not, _&&_, _||_, cond, Bool·beq, true≢false}
 use Prim.Native.Nat.{ℕ, zero, suc, _+_, _-_, _*_, _^_, _≤_, _<_, zero-le}
-use native.Mathlib.Nat.{lt-irrefl, mul-assoc, add-zero, zero-mul, mul-zero, mul-one, one-mul, mul-pos, zero-lt-suc, sub-zero, eq-zero-or-pos}
+use native.Mathlib.Nat.{lt-irrefl, mul-assoc, mul-comm, mul-left-comm, add-zero, zero-mul, mul-zero, mul-one, one-mul, mul-pos, zero-lt-suc, sub-zero, eq-zero-or-pos}
 use lib.IntN.{ℤ, pos}
-use lib.Dec.{T, eqb, eqb-refl}
+use lib.Dec.{T, eqb, eqb-refl, eqb→eq}
 use lib.Ieee.{Float, nan, inf, fin, binary64, unlike, up, down, round, sum, add, mul, ne, eq, fits, isNan, nanBits, ofBits, toBits}
 use lib.Ieee.Fits.{round-fits, down-pos}
 use lib.Ieee.Exact.{HasValue}
 use lib.Ieee.Back.{round-whole, whole-unique}
 use lib.Ieee.Bits.{ofBits-toBits, nanBits-is}
 use lib.Ieee.Scale.{round-same}
+use Rattle.binary64.specs.Binary64.{plusZero}
 use Rattle.fused_multiply_add.specs.Parts.{mag}
+use Rattle.fused_multiply_add.specs.Guided.{loneProduct}
 use Rattle.fused_multiply_add.specs.Fma.{fma, fmaFin}
 use Rattle.fused_multiply_add.proofs.Laws.Meaning.{sum-alike, sum-more, sum-number, sum-fits}
 use Rattle.fused_multiply_add.proofs.Laws.Value.{signOf, absOf, read-plain, read-inf, read-zero, sum-same}
@@ -170,6 +172,74 @@ zero-z nan y z s t u n k X Y N K E = absurd X
 zero-z (inf a) y z s t u n k X Y N K E = absurd X
 zero-z (fin a m e) nan z s t u n k X Y N K E = absurd Y
 zero-z (fin a m e) (inf b) z s t u n k X Y N K E = absurd Y
+
+-- a zero as z, and a rounded product that is none
+and-left : (a b : Bool) → a && b ≡ true → a ≡ true
+and-left true b h = refl
+and-left false b h = absurd (true≢false (sym h))
+
+and-right : (a b : Bool) → a && b ≡ true → b ≡ true
+and-right true b h = h
+and-right false b h = absurd (true≢false (sym h))
+
+zero-term : (u : Bool) (p : ℕ) (c : ℤ) → eq (fin u p c) plusZero ≡ true → p * up c ≡ 0
+unfolding eq ofBits
+zero-term u p c h =
+    sym (mul-one (p * up c))
+    ∙ eqb→eq (p * up c * 1) (0 * 1 * down c)
+    (subst T (sym (and-left (eqb (p * up c * 1) (0 * 1 * down c)) (Bool·beq u false || eqb (p * up c * 1) 0) h)) tt) ∙ zero-mul (down c)
+
+zero-inf : (u b : Bool) → eq (inf u) plusZero && b ≡ false
+unfolding eq ofBits
+zero-inf u b = refl
+
+nought-zero : (s : Bool) → ne (fin s 0 (pos 0)) plusZero ≡ false
+unfolding ne eq ofBits
+nought-zero true = refl
+nought-zero false = refl
+
+inf-add : (b w u : Bool) (p : ℕ) (c : ℤ) → cond b nan (inf w) ≡ add binary64 (cond b nan (inf w)) (fin u p c)
+unfolding add
+inf-add true w u p c = refl
+inf-add false w u p c = refl
+
+lone-finite : (s u : Bool) (m n p : ℕ) (e d c : ℤ) → p * up c ≡ 0 → ne (round binary64 s (m * up e * (n * up d)) (down e * down d)) plusZero ≡ true
+    → round binary64 s (m * up e * (n * up d)) (down e * down d) ≡ fmaFin s m e n d (fin u p c)
+unfolding fmaFin
+lone-finite s u m n p e d c P h = go (eq-zero-or-pos a)
+  where
+    a : ℕ
+    a = m * up e * (n * up d)
+
+    g : ℕ
+    g = down e * down d
+
+    G : 0 < g
+    G = mul-pos (down-pos e) (down-pos d)
+
+    go : (a ≡ 0) ⊎ (0 < a) → round binary64 s a g ≡ sum binary64 s (a * down c) u (p * up c * g) (g * down c)
+    go (inl z) = absurd (true≢false (sym h ∙ ap (λ (w : Float). ne w plusZero) (round-nought s a g G z) ∙ nought-zero s))
+    go (inr b) =
+        round-same binary64 s a g (a * down c) (g * down c) G (mul-pos G (down-pos c)) (sort a g (down c))
+        ∙ sym (sum-nought s u (a * down c) (g * down c) (mul-pos b (down-pos c)))
+        ∙ ap (λ (w : ℕ). sum binary64 s (a * down c) u w (g * down c)) (sym (ap (λ (w : ℕ). w * g) P ∙ zero-mul g))
+      where
+        sort : (a g c : ℕ) → a * (g * c) ≡ a * c * g
+        sort a g c = simp (mul-assoc, mul-comm, mul-left-comm)
+
+pub lone-product : (x y z : Float) → loneProduct (mul binary64 x y) z ≡ true → mul binary64 x y ≡ fma x y z
+unfolding loneProduct
+lone-product x y nan h = absurd (true≢false (sym h ∙ (unfold eq in refl)))
+lone-product x y (inf u) h = absurd (true≢false (sym h ∙ zero-inf u (ne (mul binary64 x y) plusZero)))
+lone-product nan y (fin u p c) h = unfold fma mul in refl
+lone-product (inf s) nan (fin u p c) h = unfold fma mul add in refl
+lone-product (inf s) (inf t) (fin u p c) h = unfold fma mul add in refl
+lone-product (inf s) (fin t n d) (fin u p c) h = unfold fma mul in inf-add (eqb n 0) (unlike s t) u p c
+lone-product (fin s m e) nan (fin u p c) h = unfold fma mul in refl
+lone-product (fin s m e) (inf t) (fin u p c) h = unfold fma mul in inf-add (eqb m 0) (unlike s t) u p c
+lone-product (fin s m e) (fin t n d) (fin u p c) h =
+    unfold fma mul in lone-finite (unlike s t) u m n p e d c (zero-term u p c (and-left (eq (fin u p c) plusZero) (ne (mul binary64 (fin s m e) (fin t n d)) plusZero) h))
+    (and-right (eq (fin u p c) plusZero) (ne (mul binary64 (fin s m e) (fin t n d)) plusZero) h)
 
 -- ---- the bits that `finite` returns
 

@@ -12,7 +12,8 @@ use Rattle.binary64.specs.Pattern.{digitsAt, digitsOf, placeOf}
 use Rattle.binary64.proofs.Pattern.{digits-low}
 use Rattle.binary64.proofs.Size.{zeros-lt, zeros-shift, zeros-many}
 use Rattle.fused_multiply_add.proofs.Laws.Jam.{jam-exact}
-use Rattle.fused_multiply_add.proofs.Laws.Words.{shl-mod, or-one, jam-cut}
+use Rattle.binary64.proofs.Product.{shl-mod}
+use Rattle.fused_multiply_add.proofs.Laws.Words.{or-one, jam-cut}
 use Rattle.fused_multiply_add.specs.Parts.{Normal, Lifted, Narrow, mag}
 
 -- ---- a difference of two words

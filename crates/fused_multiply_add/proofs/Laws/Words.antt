@@ -6,16 +6,10 @@ use native.Mathlib.Nat.{le-of-lt, lt-of-lt-of-le, mul-comm, mul-assoc, add-mul, 
 use native.Mathlib.Omega.{arith}
 use lib.Pow.{pow-add, pow-pos, pow-mono, shr-lt, shl-shr, mod-pow-add, mod-mod-pow, shr-shr}
 use lib.Bits.{bitAnd, bitOr, or-step, or-zero-r, or-add-and, and-le-l, and-le-r, or-shifted}
+use Rattle.binary64.proofs.Product.{shl-mod}
 use Rattle.fused_multiply_add.specs.Jam.{Jam}
 
 -- ---- shifts that drop what leaves the word
-
-pub shl-mod : (x j k : ℕ) → x * 2 ^ k % 2 ^ (j + k) ≡ x % 2 ^ j * 2 ^ k
-shl-mod x j k =
-    mod-pow-add (x * 2 ^ k) j k
-    ∙ ap (λ (y : ℕ). y % 2 ^ j * 2 ^ k + x * 2 ^ k % 2 ^ k) (shl-shr x k)
-    ∙ ap (λ (y : ℕ). x % 2 ^ j * 2 ^ k + y) (mul-mod-left x (2 ^ k))
-    ∙ add-zero (x % 2 ^ j * 2 ^ k)
 
 -- the d low bits of x at the top of a word, by two shifts, since d may be 0
 pub slide : (x d : ℕ) → d < 64 → x * 2 ^ 1 % 2 ^ 64 * 2 ^ (63 - d) % 2 ^ 64 ≡ x % 2 ^ d * 2 ^ (64 - d)
