@@ -100,8 +100,9 @@ module _ {A : Type 0} where
       let q : i < c = rw (tabulate-length c h) at m in
       tabulate-get d c h i q ∙ all i q ∙ sym (tabulate-get d n g (a + i) (omega arith)) ∙ sym (getD-drop a (tabulate n g) i d) ∙ sym (getD-take c (drop a (tabulate n g)) i d q))
 
-  pub fill-run : (held : List A) (n : ℕ) (g h : ℕ → A) (a c : ℕ) → length held ≡ n → a + c ≤ n → ((k : ℕ) → k < c → h k ≡ g (a + k)) → run (filled held n g a) a c h c ≡ filled held n g (a + c)
-  fill-run held n g h a c e l all =
+  -- a run of c turns after a turns of a longer run from the front
+  pub run-run : (held : List A) (n : ℕ) (g h : ℕ → A) (a c : ℕ) → a + c ≤ n → ((k : ℕ) → k < c → h k ≡ g (a + k)) → run (filled held n g a) a c h c ≡ filled held n g (a + c)
+  run-run held n g h a c l all =
       let S = tabulate n g in
       let x = filled held n g a in
       let head : length (take a S) ≡ a = length-take-le a S (rw (tabulate-length n g) (omega arith)) in
@@ -114,6 +115,9 @@ module _ {A : Type 0} where
       ∙ ap (λ (r : List A). take a S ++ r ++ drop (a + c) x) middle
       ∙ ap (λ (r : List A). take a S ++ take c (drop a S) ++ r) back
       ∙ ap (λ (r : List A). r ++ drop (0 + (a + c)) held) (sym (take-add a c S))
+
+  pub fill-run : (held : List A) (n : ℕ) (g h : ℕ → A) (a c : ℕ) → length held ≡ n → a + c ≤ n → ((k : ℕ) → k < c → h k ≡ g (a + k)) → run (filled held n g a) a c h c ≡ filled held n g (a + c)
+  fill-run held n g h a c e l all = run-run held n g h a c l all
 
 -- of numbers, with the NaN that stands past an array's end
 pub tabulate-at : (n : ℕ) (g : ℕ → Float) (k : ℕ) → k < n → getD (tabulate n g) k nan ≡ g k
