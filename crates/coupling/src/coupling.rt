@@ -112,7 +112,7 @@ fn triangle_geometric_coupling_exact_directed(
 }
 
 // The target halved depth times, each leaf by the rule of seven points.
-fn triangle_geometric_coupling_exact_fixed(
+pub fn triangle_geometric_coupling_exact_fixed(
     source: UniformTriangle,
     target: [[f64; 3]; 3],
     depth: usize,

@@ -10,7 +10,7 @@ pub fn distance_squared(a: [f64; 3], b: [f64; 3]) -> f64
     math::norm_squared3(math::sub3(b, a))
 }
 
-fn point_triangle_distance_squared(point: [f64; 3], t: [[f64; 3]; 3]) -> f64
+pub fn point_triangle_distance_squared(point: [f64; 3], t: [[f64; 3]; 3]) -> f64
     ensures { λ r. ⌜ r ≡ Spec.pointTriangleDistanceSquared point t ⌝ }
 {
     distance_squared(tri::tri3::closest_point(point, t), point)
@@ -61,7 +61,7 @@ fn kept_offset_squared(
     offset_squared(r, d1, d2, s, t)
 }
 
-fn segment_distance_squared(p0: [f64; 3], p1: [f64; 3], q0: [f64; 3], q1: [f64; 3]) -> f64
+pub fn segment_distance_squared(p0: [f64; 3], p1: [f64; 3], q0: [f64; 3], q1: [f64; 3]) -> f64
     ensures { λ r. ⌜ r ≡ Spec.segmentDistanceSquared p0 p1 q0 q1 ⌝ }
 {
     let d1 = math::sub3(p1, p0);
@@ -107,14 +107,14 @@ pub fn triangle_distance_squared(a: [[f64; 3]; 3], b: [[f64; 3]; 3]) -> f64
 }
 
 // ---- the boxes of two triangles
-fn lowest(t: [[f64; 3]; 3], axis: usize) -> f64
+pub fn lowest(t: [[f64; 3]; 3], axis: usize) -> f64
     requires { ⌜ axis < 3 ⌝ }
     ensures { λ r. ⌜ r ≡ Spec.lowest t axis ⌝ }
 {
     ieee754::min(ieee754::min(t[0][axis], t[1][axis]), t[2][axis])
 }
 
-fn highest(t: [[f64; 3]; 3], axis: usize) -> f64
+pub fn highest(t: [[f64; 3]; 3], axis: usize) -> f64
     requires { ⌜ axis < 3 ⌝ }
     ensures { λ r. ⌜ r ≡ Spec.highest t axis ⌝ }
 {

@@ -1,0 +1,3 @@
+pub mod Which
+pub mod Far
+pub mod Pair

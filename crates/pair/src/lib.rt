@@ -1,0 +1,135 @@
+// The block of two panels, from numbers that are worked out once a panel.
+mod far;
+mod which;
+
+use crate::far::Points;
+use boundary_element::current_density::triangle_basis_current_densities;
+use coupling::block::block_from_coupling;
+use coupling::coupling::triangle_geometric_coupling_exact_fixed;
+use coupling::distance::highest;
+use coupling::distance::lowest;
+use coupling::distance::triangle_max_edge_squared;
+use potential::UniformTriangle;
+use tri::quadrature::QuadratureKind;
+use tri::quadrature::quadrature_count;
+ghost use mathlib.Core.Path.{_≡_};
+ghost use Rattle.coupling.specs.Block.{mutualInductanceBlock};
+ghost use Rattle.coupling.specs.Coupling.{geometricCoupling};
+ghost use Rattle.pair.specs.Pair as Spec;
+
+const COUPLING_NEAR_SUBDIVISION_DEPTH: usize = 2;
+
+// A panel's own numbers: corners and densities as nine numbers each, the longest edge squared, the box.
+pub struct Panel {
+    pub corners: [f64; 9],
+    pub area: f64,
+    pub edge: f64,
+    pub lo: [f64; 3],
+    pub hi: [f64; 3],
+    pub densities: [f64; 9],
+}
+
+// A panel with what it needs besides as the source of a row of targets.
+pub struct Source {
+    pub panel: Panel,
+    pub points: Points,
+    pub uniform: UniformTriangle,
+}
+
+// ---- three vectors as nine numbers, since a struct holds no array of arrays
+pub fn nine(t: [[f64; 3]; 3]) -> [f64; 9]
+    ensures { λ r. ⌜ r ≡ Spec.coordinates t ⌝ }
+{
+    [
+        t[0][0],
+        t[0][1],
+        t[0][2],
+        t[1][0],
+        t[1][1],
+        t[1][2],
+        t[2][0],
+        t[2][1],
+        t[2][2],
+    ]
+}
+
+fn three(v: [f64; 9]) -> [[f64; 3]; 3]
+    ensures { λ r. ⌜ r ≡ Spec.triangle v ⌝ }
+{
+    [[v[0], v[1], v[2]], [v[3], v[4], v[5]], [v[6], v[7], v[8]]]
+}
+
+// ---- worked out once a panel
+pub fn panel_numbers(t: [[f64; 3]; 3]) -> Panel
+    ensures { λ r. ⌜ r ≡ Spec.panelNumbers t ⌝ }
+{
+    let corners = nine(t);
+    let area = tri::mapping::area(t);
+    let edge = triangle_max_edge_squared(t);
+    let lo = [lowest(t, 0), lowest(t, 1), lowest(t, 2)];
+    let hi = [highest(t, 0), highest(t, 1), highest(t, 2)];
+    let densities = nine(triangle_basis_current_densities(t));
+    Panel {
+        corners,
+        area,
+        edge,
+        lo,
+        hi,
+        densities,
+    }
+}
+
+pub fn source_numbers(kind: QuadratureKind, p: Panel) -> Source
+    ensures { λ r. ⌜ r ≡ Spec.sourceNumbers kind p ⌝ }
+{
+    let corners = p.corners;
+    let points = far::points_of(kind, corners, p.area);
+    let uniform = UniformTriangle::new(three(corners));
+    Source {
+        panel: p,
+        points,
+        uniform,
+    }
+}
+
+// ---- worked out once a pair
+// geometric_coupling of the corners of two panels.
+fn pair_coupling(kind: QuadratureKind, s: Source, t: Panel) -> f64
+    requires { ⌜ Spec.KnownSource kind s ⌝ }
+    requires { ⌜ Spec.Known t ⌝ }
+    ensures { λ r. ⌜ r ≡ geometricCoupling kind (Spec.triangle (s .panel .corners)) (Spec.triangle (t .corners)) ⌝ }
+{
+    let p = s.panel;
+    let a = p.corners;
+    let alo = p.lo;
+    let ahi = p.hi;
+    let b = t.corners;
+    let blo = t.lo;
+    let bhi = t.hi;
+    let target = three(b);
+    let limit = ieee754::max(p.edge, t.edge);
+    let apart = which::box_distance_squared(alo, ahi, blo, bhi);
+    if which::is_far(three(a), target, limit, apart) {
+        let points = s.points;
+        return far::far_coupling(
+            quadrature_count(kind),
+            points,
+            far::points_of(kind, b, t.area),
+        );
+    }
+    let uniform = s.uniform;
+    triangle_geometric_coupling_exact_fixed(uniform, target, COUPLING_NEAR_SUBDIVISION_DEPTH)
+}
+
+// mutual_inductance_block of the corners of two panels.
+pub fn pair_block(kind: QuadratureKind, s: Source, t: Panel) -> [f64; 9]
+    requires { ⌜ Spec.KnownSource kind s ⌝ }
+    requires { ⌜ Spec.Known t ⌝ }
+    ensures { λ r. ⌜ r ≡ mutualInductanceBlock kind (Spec.triangle (s .panel .corners)) (Spec.triangle (t .corners)) ⌝ }
+{
+    let p = s.panel;
+    let ksrc = p.densities;
+    let ktgt = t.densities;
+    let g = pair_coupling(kind, s, t);
+    block_from_coupling(g, three(ksrc), three(ktgt))
+}
