@@ -1,6 +1,8 @@
 pub mod Within
 pub mod Nest
 pub mod Ready
+pub mod Scan
+pub mod Keeping
 pub mod Rules
 pub mod Numbers
 pub mod Change

@@ -24,6 +24,7 @@ pub ready-now : (m : Mesh) (old out : List Float) (marks : List Bool) → Ready 
 ready-now m old out marks w e = record {
   nodes-alike = w .nodes-alike;
   panels-alike = w .panels-alike;
+  few-panels = w .few-panels;
   none-missing = w .none-missing;
   sized = record { small = w .sized .small; cells = e ∙ w .sized .cells; enough = w .sized .enough };
 }
@@ -53,6 +54,7 @@ module _ (m : Mesh) (out : List Float) (r : ℕ) (e : r ≡ sizedRefusal m (leng
       record {
         nodes-alike = a .nodes-alike;
         panels-alike = a .panels-alike;
+        few-panels = a .limits .few-panels;
         none-missing = a .none-missing;
         sized = record {
           small = a .limits .few-nodes;

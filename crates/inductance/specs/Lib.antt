@@ -1,3 +1,4 @@
 pub mod Matrix
 pub mod Assembly
 pub mod Change
+pub mod Kept

@@ -14,11 +14,11 @@ use Rattle.scatter.specs.Entries.{contributions, cellSum, square}
 use Rattle.scatter.specs.Renewal.{marked, renewed}
 use Rattle.scatter.proofs.Renewals.{renewed-same}
 use Rattle.inductance.specs.Matrix.{Block, entries, cell, matrix}
-use Rattle.inductance.specs.Assembly.{Ready}
+use Rattle.inductance.specs.Assembly.{Ready, IndicesBelow}
 use Rattle.scatter.specs.Entries.{same}
 use Rattle.inductance.specs.Change.{Changed, Apart}
 use Rattle.inductance.proofs.Change.{renewed-by}
-use Rattle.node_move.specs.Move.{moved, joins, ring, Done, MoveReady, IndicesBelow}
+use Rattle.node_move.specs.Move.{moved, joins, ring, Done, MoveReady}
 use Rattle.node_move.proofs.Marks.{none-marked}
 use Rattle.node_move.proofs.Count.{named-count}
 use Rattle.node_move.proofs.Overlay.{elsewhere}
@@ -59,6 +59,7 @@ moved-ready m old v x y z marks w e =
     record {
       nodes-alike = record { ys-long = length-set (m .ys) v y ∙ w .nodes-alike .ys-long ∙ sym l; zs-long = length-set (m .zs) v z ∙ w .nodes-alike .zs-long ∙ sym l };
       panels-alike = record { t1-long = w .panels-alike .t1-long; t2-long = w .panels-alike .t2-long };
+      few-panels = w .few-panels;
       none-missing = λ i h. let b = w .none-missing i h in record { below0 = rw l (b .below0); below1 = rw l (b .below1); below2 = rw l (b .below2) };
       sized = record { small = rw l (w .small); cells = rw l (w .cells); enough = rw l e };
     }

@@ -31,6 +31,7 @@ ready m old v x y z r e h =
       panels-alike = a .panels-alike;
       none-missing = a .none-missing;
       small = a .limits .few-nodes;
+      few-panels = a .limits .few-panels;
       cells = eqb-true (length old) (nnode m * nnode m) (not-false _ (w .1 .0));
       there = leb-false (nnode m) v (w .1 .1 .0);
     }

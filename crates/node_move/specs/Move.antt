@@ -11,7 +11,7 @@ use Rattle.mesh.specs.Refusal.{Check, check, first, noSuchChoice, outputLength,
 use Rattle.mesh.specs.Counting.{anyOf, someBelow, countBelow}
 use Rattle.mesh.specs.Mesh.{Mesh, meshOf, nnode, ntri, triangleIndices, someZeroArea, meshChecks, maxNodes, maxPanels}
 use Rattle.mesh.specs.Conditions.{NodeColumnsAlike, PanelColumnsAlike, NoneMissing}
-use Rattle.scatter.specs.Renewal.{named, renewed, AllBelow}
+use Rattle.scatter.specs.Renewal.{named, renewed}
 use Rattle.inductance.specs.Assembly.{isUnknown}
 use Rattle.scatter.specs.Entries.{same}
 
@@ -70,14 +70,11 @@ pub record MoveClaim (cellOf : Mesh → ℕ → ℕ → Float) (matrixOf : Mesh 
   pub fresh : r ≡ 0 → old ≡ matrixOf m → new ≡ matrixOf (moved m v x y z)
 
 -- ---- what the functions below the call ask
--- every index of every panel is below k
-abbrev pub IndicesBelow : ℕ → Mesh → Type 0
-IndicesBelow k m = (i : ℕ) → i < ntri m → AllBelow k (triangleIndices m i)
-
 pub record MoveReady (m : Mesh) (old : List Float) (v : ℕ) : Type 0 where
   pub nodes-alike : NodeColumnsAlike m
   pub panels-alike : PanelColumnsAlike m
   pub none-missing : NoneMissing m
   pub small : nnode m ≤ maxNodes
+  pub few-panels : ntri m ≤ maxPanels
   pub cells : length old ≡ nnode m * nnode m
   pub there : v < nnode m

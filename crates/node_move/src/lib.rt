@@ -12,9 +12,9 @@ ghost use Rattle.mesh.specs.Conditions.{NodeColumnsAlike, PanelColumnsAlike, Be
 ghost use Rattle.coupling.specs.Block.{mutualInductanceBlock};
 ghost use Rattle.scatter.specs.Renewal.{marked, AllBelow};
 ghost use Rattle.inductance.specs.Matrix.{cell, matrix};
-ghost use Rattle.inductance.specs.Assembly.{blockUnder};
+ghost use Rattle.inductance.specs.Assembly.{blockUnder, IndicesBelow};
 ghost use Rattle.scatter.specs.Entries.{same};
-ghost use Rattle.node_move.specs.Move.{moved, ring, placeRefusal, moveRefusal, Done, MoveClaim, MoveReady, IndicesBelow};
+ghost use Rattle.node_move.specs.Move.{moved, ring, placeRefusal, moveRefusal, Done, MoveClaim, MoveReady};
 use tri::quadrature::QuadratureKind;
 use tri::quadrature::Rule;
 

@@ -6,7 +6,7 @@ use mathlib.Core.List.{List, [], _∷_}
 use Prim.Native.Nat.{ℕ, _+_, _*_, _<_, _≤_}
 use lib.ListN.{length, getD, set}
 use lib.Ieee.{Float}
-use Rattle.binary64.specs.Binary64.{_⊕_, at}
+use Rattle.binary64.specs.Binary64.{_⊕_, at, plusZero}
 use Rattle.mesh.specs.Mesh.{maxNodes}
 use Rattle.scatter.specs.Entries.{Entry, square}
 
@@ -17,6 +17,10 @@ named r a b = r a || r b
 -- named cells are g's, every other cell keeps its number
 unfoldable pub renewed : (ℕ → Bool) → (ℕ → ℕ → Float) → ℕ → List Float → List Float
 renewed r g n old = square n (λ a b. cond (named r a b) (g a b) (at old (a * n + b)))
+
+-- the number due at column b of row a once named cells are +0
+abbrev pub clearedIn : (ℕ → Bool) → ℕ → List Float → ℕ → ℕ → Float
+clearedIn r n old a b = cond (named r a b) plusZero (at old (a * n + b))
 
 -- ---- the additions, made one after the other in a matrix of n columns
 abbrev pub addAt : ℕ → List Float → Entry → List Float

@@ -4,13 +4,15 @@
 ghost use mathlib.Core.Path.{_≡_};
 ghost use mathlib.Core.Bool.{cond};
 ghost use mathlib.Core.List.{[], _∷_};
-ghost use Prim.Native.Nat.{_<_, _≤_, _*_, _/_, _%_};
-ghost use lib.ListN.{length, set};
-ghost use Rattle.binary64.specs.Binary64.{at, plusZero};
+ghost use Prim.Native.Nat.{_<_, _≤_, _*_, _-_};
+ghost use lib.ListN.{length};
+ghost use Rattle.binary64.specs.Binary64.{plusZero};
 ghost use Rattle.mesh.specs.Mesh.{maxNodes};
 ghost use Rattle.mesh.specs.Counting.{anyOf, three};
+ghost use Rattle.mesh.specs.Filling.{run};
 ghost use Rattle.scatter.specs.Entries.{entry, rowEntries, blockEntries, oriented, withTransposed};
-ghost use Rattle.scatter.specs.Renewal.{named, renewed, addAt, renewing, marked, Sized, AllBelow};
+ghost use Rattle.scatter.specs.Renewal.{named, renewed, addAt, renewing, clearedIn, marked, Sized, AllBelow};
+ghost use Rattle.scatter.specs.Links.{nextFrom, Linked};
 
 // One addition.
 fn add_at(out: &mut [f64], n: usize, row: usize, col: usize, v: f64)
@@ -119,14 +121,56 @@ pub fn touches(marks: &[bool], s: [usize; 3]) -> bool
     marks[s[0]] | (marks[s[1]] | marks[s[2]])
 }
 
-// The cell at k becomes +0 if it is named.
-fn clear_cell(out: &mut [f64], n: usize, marks: &[bool], k: usize)
-    requires { ⌜ Sized n (now out) (now marks) ⌝ }
-    requires { ⌜ k < length (now out) ⌝ }
-    ensures { λ _. ⌜ now (out .exit) ≡ set (now (out .entry)) k (cond (named (marked (now (marks .entry))) (k / n) (k % n)) plusZero (at (now (out .entry)) k)) ⌝ }
+// The nearer of a marked place k and the first marked one above it.
+fn link(mark: bool, k: usize, above: usize) -> usize
+    ensures { λ r. ⌜ r ≡ cond mark k above ⌝ }
 {
-    if marks[k / n] | marks[k % n] {
-        out[k] = 0.0;
+    if mark {
+        return k;
+    }
+    above
+}
+
+// For each place below n the first marked one from it up, n if there is none.
+pub fn link_marked(marks: &[bool], n: usize, links: &mut [usize])
+    requires { ⌜ (n ≤ length (now marks)) × (n ≤ length (now links)) ⌝ }
+    ensures { λ _. ⌜ Linked 0 (marked (now (marks .entry))) n (now (links .exit)) ⌝ }
+{
+    let mut first = n;
+    let mut k = n;
+    while 0 < k {
+        k -= 1;
+        first = link(marks[k], k, first);
+        links[k] = first;
+    }
+}
+
+// The first column from `col` up that is named in the row, n if there is none.
+pub fn next_named(marks: &[bool], links: &[usize], n: usize, row: usize, col: usize) -> usize
+    requires { ⌜ (n ≤ length (now marks)) × (n ≤ length (now links)) ⌝ }
+    requires { ⌜ (col < n → row < n) × Linked 0 (marked (now marks)) n (now links) ⌝ }
+    ensures { λ r. ⌜ r ≡ nextFrom (named (marked (now (marks .entry))) row) col (n - col) ⌝ }
+{
+    if n <= col {
+        return col;
+    }
+    if marks[row] {
+        return col;
+    }
+    links[col]
+}
+
+// The named cells of a row become +0.
+fn clear_row(out: &mut [f64], n: usize, marks: &[bool], links: &[usize], row: usize)
+    requires { ⌜ Sized n (now out) (now marks) ⌝ }
+    requires { ⌜ (row < n) × (n ≤ length (now links)) × Linked 0 (marked (now marks)) n (now links) ⌝ }
+    ensures { λ _. ⌜ now (out .exit) ≡ run (now (out .entry)) (row * n) n (clearedIn (marked (now (marks .entry))) n (now (out .entry)) row) n ⌝ }
+{
+    let base = row * n;
+    let mut col = next_named(marks, links, n, row, 0);
+    while col < n {
+        out[base + col] = 0.0;
+        col = next_named(marks, links, n, row, col + 1);
     }
 }
 
@@ -135,9 +179,11 @@ pub fn clear_named(out: &mut [f64], n: usize, marks: &[bool])
     requires { ⌜ Sized n (now out) (now marks) ⌝ }
     ensures { λ _. ⌜ now (out .exit) ≡ renewed (marked (now (marks .entry))) (λ a b. plusZero) n (now (out .entry)) ⌝ }
 {
-    let mut k = 0;
-    while k < out.len() {
-        clear_cell(out, n, marks, k);
-        k += 1;
+    let mut links: [usize; mesh::MAX_NODES] = [0; mesh::MAX_NODES];
+    link_marked(marks, n, &mut links);
+    let mut row = 0;
+    while row < n {
+        clear_row(out, n, marks, &links, row);
+        row += 1;
     }
 }

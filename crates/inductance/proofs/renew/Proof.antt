@@ -1,32 +1,58 @@
--- Cleared, then added to by every source: the renewed matrix.
+-- Panels flagged and linked, named cells cleared, then every addition made: the renewed matrix.
+use mathlib.Core.Path.{_≡_}
 use denote.Ref.{now}
+use lib.ListN.{length}
 use Rattle.mesh.specs.Mesh.{Mesh, meshOf, nnode}
 use Rattle.coupling.specs.Block.{mutualInductanceBlock}
 use Rattle.scatter.specs.Renewal.{marked}
 use Rattle.inductance.proofs.Within.{entries-within}
 use Rattle.inductance.proofs.Nest.{nest-done, cleared-length}
 use Rattle.inductance.proofs.Ready.{ready-now}
+use Rattle.inductance.proofs.Scan.{indices-marked}
 use borrow.Author.Needs.{needs}
 use Rattle.inductance.proofs.renew.Statement.{statement}
 use Rattle.inductance.proofs.renew.Tie as tie
 
-add-sources-requires : tie.Need-add-sources-requires
-add-sources-requires c κs =
-    let w = c .before .before .before .before .before .before .before .before .before .before .before .before .before in
+flag-panels-requires : tie.Need-flag-panels-requires
+flag-panels-requires c κs =
+    let w = c .before .before .before .before .before .before .before .before .before in
+    let a = w .args in
+    (record { t1-long = w .pre .panels-alike .t1-long; t2-long = w .pre .panels-alike .t2-long }, (indices-marked (meshOf (now (a .x)) (now (a .y)) (now (a .z)) (now (a .t0)) (now (a .t1)) (now (a .t2))) (now (a .out)) (now (a .marks)) (w .pre), w .pre .few-panels))
+
+link-marked-requires : tie.Need-link-marked-requires
+link-marked-requires c κs =
+    let w = c .before .before .before .before .before .before .before .before .before .before .before .before .before .pre in
+    let long : length (c .before .before .before .flag-panels .last .1 .1 .1 .1 .0) ≡ 8192 = search needs in
+    (rw long (w .few-panels), w .few-panels)
+
+clear-named-requires : tie.Need-clear-named-requires
+clear-named-requires c κs = c .before .before .before .before .before .before .before .before .before .before .before .before .before .before .before .before .pre .sized
+
+add-all-requires : tie.Need-add-all-requires
+add-all-requires c κs =
+    let w = c .before .before .before .before .before .before .before .before .before .before .before .before .before .before .before .before .before .before .before .before .before .before in
     let a = w .args in
     let m : Mesh = meshOf (now (a .x)) (now (a .y)) (now (a .z)) (now (a .t0)) (now (a .t1)) (now (a .t2)) in
-    ready-now m (now (a .out)) (c .before .before .before .clear-named .last .0) (now (a .marks)) (w .pre)
-    (cleared-length (marked (now (a .marks))) (nnode m) (now (a .out)) (w .pre .sized .cells) (c .before .before .before .clear-named .ensures))
+    let s = c .before .before .before .before .before .clear-named in
+    let f = c .before .before .before .before .before .before .before .before .before .before .before .before .flag-panels in
+    let l = c .before .before .before .before .before .before .before .before .link-marked in
+    let flags-fit : length (f .last .1 .1 .1 .1 .0) ≡ 8192 = search needs in
+    let links-fit : length (l .last .1 .1 .0) ≡ 8192 = search needs in (
+      ready-now m (now (a .out)) (s .last .0) (now (a .marks)) (w .pre) (cleared-length (marked (now (a .marks))) (nnode m) (now (a .out)) (w .pre .sized .cells) (s .ensures)),
+      record { flags-long = rw flags-fit (w .pre .few-panels); links-long = rw links-fit (w .pre .few-panels); flagged = f .ensures; linked = l .ensures },
+    )
 
 returns : tie.Need-returns
 returns c =
-    let w = c .before .before .before .before .before .before .before .before .before .before .before .before .before .before .before .before in
+    let w = c .before .before .before .before .before .before .before .before .before .before .before .before .before .before .before .before .before .before .before .before .before .before .before .before .before in
     let a = w .args in
     let m : Mesh = meshOf (now (a .x)) (now (a .y)) (now (a .z)) (now (a .t0)) (now (a .t1)) (now (a .t2)) in
     let f = mutualInductanceBlock (a .kind) in
-    nest-done (marked (now (a .marks))) (nnode m) f m (now (a .out)) (c .before .before .before .before .before .before .clear-named .last .0) (c .before .before .add-sources .last .1 .1 .1 .1 .1 .1 .1 .1 .0) (entries-within f m (w .pre .none-missing)) (c .before .before .before .before .before .before .clear-named .ensures) (c .before .before .add-sources .ensures)
+    let s = c .before .before .before .before .before .before .before .before .clear-named in
+    let t = c .before .before .add-all in
+    nest-done (marked (now (a .marks))) (nnode m) f m (now (a .out)) (s .last .0) (t .last .1 .1 .1 .1 .1 .1 .1 .1 .1 .1 .0) (entries-within f m (w .pre .none-missing)) (s .ensures) (t .ensures)
 
 pub renew-spec : {M : Type 1} → statement M
 renew-spec =
     tie.close
-    (tie.spec (search needs) add-sources-requires (search needs) returns)
+    (tie.spec (search needs) flag-panels-requires (search needs) (search needs) link-marked-requires clear-named-requires (search needs) (search needs) add-all-requires (search needs) returns)

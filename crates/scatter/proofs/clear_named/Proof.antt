@@ -1,57 +1,62 @@
--- The named cells below k are cleared; `clear-turn` and `clear-end` say this of the filling loop.
-use mathlib.Core.Path.{_≡_, refl, _∙_}
+-- The rows above `row` are cleared; `clear-turn` and `clear-end` say this of a loop that fills the matrix row by row.
+use mathlib.Core.Path.{_≡_, refl, sym, ap, _∙_}
 use Prim.Native.Nat.{_≤_, _+_, _-_, _*_}
+use native.Mathlib.Nat.{zero-mul}
 use native.Mathlib.Omega.{arith}
 use denote.Ref.{now}
 use lib.ListN.{length}
 use Rattle.mesh.specs.Filling.{filled, fill-start, column-long}
 use Rattle.scatter.specs.Renewal.{marked}
-use Rattle.scatter.proofs.Clearing.{clearedAt, clear-turn, clear-end}
+use Rattle.scatter.proofs.Clearing.{clearedAt, clear-turn, clear-end, rows-fit}
+use borrow.Author.Needs.{needs}
 use Rattle.scatter.proofs.clear_named.Statement.{statement}
 use Rattle.scatter.proofs.clear_named.Tie as tie
-use borrow.Author.Needs.{needs}
 
 abbrev Inv-loop : tie.InvT-loop
-Inv-loop out₀ n marks k₀ out k = (k ≤ length out₀) × (length out ≡ length out₀) × (out ≡ filled out₀ (n * n) (clearedAt (marked marks) n out₀) k)
+Inv-loop out₀ n marks links row₀ out row = (row ≤ n) × (length out ≡ length out₀) × (out ≡ filled out₀ (n * n) (clearedAt (marked marks) n out₀) (row * n))
 
 abbrev μ-loop : tie.MeasureT-loop
-μ-loop out₀ n marks k₀ out k = length out₀ - k
+μ-loop out₀ n marks links row₀ out row = n - row
+
+link-marked-requires : tie.Need-link-marked-requires Inv-loop μ-loop
+link-marked-requires c κs = let w = c .before .before .before .pre in (w .enough, w .small)
 
 loop-holds : tie.Need-loop-holds Inv-loop μ-loop
 loop-holds c =
-    let a = c .before .before .args in
-    (omega arith, refl, fill-start (now (a .out)) (a .n * a .n) (clearedAt (marked (now (a .marks))) (a .n) (now (a .out))))
+    let a = c .before .before .before .before .before .args in
+    let g = clearedAt (marked (now (a .marks))) (a .n) (now (a .out)) in
+    (omega arith, refl, fill-start (now (a .out)) (a .n * a .n) g ∙ ap (filled (now (a .out)) (a .n * a .n) g) (sym (zero-mul (a .n))))
 
-clear-cell-requires : tie.Need-clear-cell-requires Inv-loop μ-loop
-clear-cell-requires c κs =
-    let w = c .before .before .before .before .before .pre in
-    (record { small = w .small; cells = c .before .before .loop .inv .1 ∙ w .cells; enough = w .enough }, c .before .loop-test .taken)
-
-add-k : tie.Need-add-k Inv-loop μ-loop
-add-k c = search needs
+clear-row-requires : tie.Need-clear-row-requires Inv-loop μ-loop
+clear-row-requires c κs =
+    let w = c .before .before .before .before .before .before .before .before .before .pre in
+    let l = c .before .before .before .loop in
+    let long : length (c .before .before .before .before .before .link-marked .last .1 .1 .0) ≡ 4096 = search needs in
+    (record { small = w .small; cells = l .inv .1 ∙ w .cells; enough = w .enough }, (c .before .before .loop-test .taken, rw long (w .small), c .before .before .before .before .before .link-marked .ensures))
 
 loop-less : tie.Need-loop-less Inv-loop μ-loop
 loop-less c = search needs
 
 loop-again : tie.Need-loop-again Inv-loop μ-loop
 loop-again c =
-    let w = c .before .before .before .before .before .before .before .before in
+    let w = c .before .before .before .before .before .before .before .before .before .before .before .before in
     let a = w .args in
-    let l = c .before .before .before .before .before .loop in
-    let n = clear-turn (marked (now (a .marks))) (a .n) (now (a .out)) (w .pre .cells) (l .k) (l .out) (omega (arith, w .pre .cells)) (l .inv .2) (c .before .before .clear-cell .ensures) in
-    (omega arith, column-long (now (a .out)) _ (a .n * a .n) (clearedAt (marked (now (a .marks))) (a .n) (now (a .out))) (l .k + 1) (w .pre .cells) (omega (arith, w .pre .cells)) n, n)
+    let l = c .before .before .before .before .before .before .loop in
+    let h = c .before .before .before .before .before .loop-test .taken in
+    let e = clear-turn (marked (now (a .marks))) (a .n) (now (a .out)) (w .pre .cells) (l .row) (l .out) h (l .inv .2) (c .before .before .clear-row .ensures) in
+    (omega (arith, h), column-long (now (a .out)) _ (a .n * a .n) (clearedAt (marked (now (a .marks))) (a .n) (now (a .out))) ((l .row + 1) * a .n) (w .pre .cells) (rows-fit (l .row + 1) (a .n) (omega (arith, h))) e, e)
 
 same-length : tie.Need-same-length Inv-loop μ-loop
 same-length c = c .before .loop .inv .1
 
 returns : tie.Need-returns Inv-loop μ-loop
 returns c =
-    let w = c .before .before .before .before in
+    let w = c .before .before .before .before .before .before .before in
     let a = w .args in
     let l = c .before .loop in
-    clear-end (marked (now (a .marks))) (a .n) (now (a .out)) (w .pre .cells) (l .k) (l .out) (omega (arith, w .pre .cells)) (l .inv .2)
+    clear-end (marked (now (a .marks))) (a .n) (now (a .out)) (w .pre .cells) (l .row) (l .out) (omega (arith, c .loop-test .left, l .inv .0)) (l .inv .2)
 
 pub clear-named-spec : {M : Type 1} → statement M
 clear-named-spec =
     tie.close
-    (tie.spec Inv-loop μ-loop loop-holds clear-cell-requires add-k loop-less loop-again same-length returns)
+    (tie.spec Inv-loop μ-loop (search needs) link-marked-requires loop-holds (search needs) clear-row-requires (search needs) loop-less loop-again same-length returns)
