@@ -38,7 +38,8 @@ fn put_decimal(out: &mut [u8], from: usize, n: usize) -> usize
     put(out, from, &digits[..k])
 }
 
-fn canonical_bits(x: f64) -> u64
+// A number's bits, any NaN as one.
+pub fn canonical_bits(x: f64) -> u64
     ensures { λ r. ⌜ r ≡ Spec.canonicalBits x ⌝ }
 {
     if ieee754::is_nan(x) {

@@ -37,7 +37,7 @@ pub fn little_endian(bytes: &[u8], from: usize, width: usize) -> u64
 }
 
 // The number of a bit pattern, of a NaN's too.
-fn from_bits(n: u64) -> f64
+pub fn from_bits(n: u64) -> f64
     ensures { λ r. ⌜ r ≡ bits n ⌝ }
 {
     if n % 0x8000_0000_0000_0000 > 0x7ff0_0000_0000_0000 {

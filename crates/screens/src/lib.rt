@@ -2,6 +2,7 @@
 // Each is one call of a crate below and has that function's contract.
 pub mod arithmetic;
 pub mod assembly;
+pub mod files;
 pub mod meshes;
 pub mod output;
 pub mod pairs;

@@ -1,12 +1,13 @@
 // Two panels, source and target, by the coordinates of their corners: source a, b and c, target d, e and f.
 ghost use mathlib.Core.Path.{_≡_};
-ghost use mathlib.Core.List.{[], _++_};
+ghost use mathlib.Core.List.{[], _∷_, _++_};
 ghost use lib.ListN.{getD};
 ghost use Rattle.coupling.specs.Bisection as Bisection;
+ghost use Rattle.coupling.specs.Block as Block;
 ghost use Rattle.coupling.specs.Calls as Calls;
 ghost use Rattle.coupling.specs.Coupling as Coupling;
 ghost use Rattle.coupling.specs.Distance as Distance;
-ghost use Rattle.screens.specs.Screens.{triangle, halvesOf, Wrote, Valued, WroteBlock};
+ghost use Rattle.screens.specs.Screens.{vector, triangle, halvesOf, Wrote, Valued, WroteBlock};
 use crate::output;
 use crate::panels::nine;
 
@@ -258,6 +259,34 @@ pub extern "C" fn screens_mutual_inductance_block(
     }
     let values = answer.values;
     output::write9(values, out)
+}
+
+// A block of nine numbers, row by row, between the values s of the source and t of the target.
+#[no_mangle]
+pub extern "C" fn screens_inductance_from_potentials(
+    m0: f64,
+    m1: f64,
+    m2: f64,
+    m3: f64,
+    m4: f64,
+    m5: f64,
+    m6: f64,
+    m7: f64,
+    m8: f64,
+    s0: f64,
+    s1: f64,
+    s2: f64,
+    t0: f64,
+    t1: f64,
+    t2: f64,
+) -> f64
+    ensures { λ r. ⌜ r ≡ Block.inductanceFromPotentialVectors (m0 ∷ m1 ∷ m2 ∷ m3 ∷ m4 ∷ m5 ∷ m6 ∷ m7 ∷ m8 ∷ []) (vector s0 s1 s2) (vector t0 t1 t2) ⌝ }
+{
+    coupling::block::triangle_inductance_from_potential_vectors(
+        [m0, m1, m2, m3, m4, m5, m6, m7, m8],
+        [s0, s1, s2],
+        [t0, t1, t2],
+    )
 }
 
 // Two triangles as eighteen numbers.

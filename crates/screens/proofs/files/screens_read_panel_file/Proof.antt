@@ -1,0 +1,10 @@
+-- The call's own contract.
+use borrow.Author.Needs.{needs}
+use Rattle.screens.proofs.files.screens_read_panel_file.Statement.{statement}
+use Rattle.screens.proofs.files.screens_read_panel_file.Tie as tie
+
+returns : tie.Need-returns
+returns c = c .before .before .before .before .before .before .before .before .before .before .before .before .read-panel-file .ensures
+
+pub screens-read-panel-file-spec : {M : Type 1} → statement M
+screens-read-panel-file-spec = tie.close (tie.spec (search needs) (search needs) (search needs) (search needs) (search needs) (search needs) (search needs) returns)
