@@ -1,26 +1,84 @@
-// Document 01's bench sheet, the lines of the arithmetic: each is worked out and printed as its bits.
-// What is printed is compared with the file stdout, whose bits are document 01's.
-ghost use mathlib.Core.Path.{_≡_};
-ghost use Rattle.worked_examples.specs.Bits.{canonicalBits};
+// Document 01's bench sheet, worked out and printed, and the three elementary functions against the host C library's values. What
+// is printed is compared with the file stdout: its numbers are document 01's, and for the last three lines what oracle/libm_table.c
+// finds for the same formulas.
+mod gaps;
+mod lines;
+mod sheet;
+mod table;
 
-fn canonical_bits(x: f64) -> u64
-    ensures { λ r. ⌜ r ≡ canonicalBits x ⌝ }
-{
-    if ieee754::is_nan(x) {
-        return 0x7ff8_0000_0000_0000;
-    }
-    f64::to_bits(x)
-}
+use lines::bits_line;
+use lines::number_line;
 
 fn main() {
     // 1 + 2^-30 and 1 - 2^-30
     let above = 1.000000000931322574615478515625;
     let below = 0.999999999068677425384521484375;
-    io::write_all(1, b"fused (1 + 2^-30) x (1 - 2^-30) - 1   ");
-    io::print_hex(1, canonical_bits(ieee754::mul_add(above, below, -1.0)), 16);
-    io::write_all(1, b"\nsqrt(-0)                              ");
-    io::print_hex(1, canonical_bits(ieee754::sqrt(-0.0)), 16);
-    io::write_all(1, b"\nsqrt 2                                ");
-    io::print_hex(1, canonical_bits(ieee754::sqrt(2.0)), 16);
-    io::write_all(1, b"\n");
+    let point = sheet::split_point();
+    let flux = sheet::flux();
+    bits_line(
+        b"fused (1 + 2^-30) x (1 - 2^-30) - 1   ",
+        ieee754::mul_add(above, below, -1.0),
+    );
+    bits_line(
+        b"sqrt(-0)                              ",
+        ieee754::sqrt(-0.0),
+    );
+    bits_line(
+        b"sqrt 2                                ",
+        ieee754::sqrt(2.0),
+    );
+    number_line(
+        b"height 2e-14, refusal                 ",
+        sheet::thin_refusal(2e-14) as u64,
+    );
+    number_line(
+        b"height 1.9e-14, refusal               ",
+        sheet::thin_refusal(1.9e-14) as u64,
+    );
+    number_line(
+        b"NaN area, refusal                     ",
+        sheet::thin_refusal(ieee754::not_a_number()) as u64,
+    );
+    number_line(
+        b"raised by 5, far                      ",
+        sheet::far_when_raised(5.0) as u64,
+    );
+    number_line(
+        b"raised by 5.000000000000001, far      ",
+        sheet::far_when_raised(5.000000000000001) as u64,
+    );
+    number_line(
+        b"split between this corner and the next",
+        sheet::split_edge() as u64,
+    );
+    bits_line(b"split point, x                        ", point[0]);
+    bits_line(b"split point, y                        ", point[1]);
+    bits_line(b"split point, z                        ", point[2]);
+    bits_line(b"flux 17                               ", flux[0]);
+    bits_line(b"flux 39                               ", flux[1]);
+    bits_line(
+        b"interaction energy 56                 ",
+        sheet::interaction_energy(),
+    );
+    number_line(
+        b"no sources, one output, refusal       ",
+        sheet::no_sources() as u64,
+    );
+    bits_line(b"energy 12.5                           ", sheet::energy());
+    number_line(
+        b"display of 1/1024                     ",
+        sheet::displayed(),
+    );
+    number_line(
+        b"ln, units in the last place, at most 2",
+        gaps::worst(0, table::LN),
+    );
+    number_line(
+        b"asinh, the same                       ",
+        gaps::worst(1, table::ASINH),
+    );
+    number_line(
+        b"atan2, the same                       ",
+        gaps::worst(2, table::ATAN2),
+    );
 }

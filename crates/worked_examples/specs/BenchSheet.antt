@@ -1,0 +1,90 @@
+-- Document 01's bench sheet: the starred facts, each a field, in the definitions of the library. Definitions only.
+use mathlib.Core.Path.{_≡_}
+use mathlib.Core.Bool.{true, false}
+use mathlib.Core.List.{List, [], _∷_}
+use lib.IntN.{pos}
+use lib.Ieee.{Float, binary64, neg, toBits}
+use Rattle.binary64.specs.Binary64.{_⊕_, _⊖_, bits, at, plusZero, half, one, two, four}
+use Rattle.ieee754.specs.Ieee754.{fma, sqrt}
+use Rattle.math.specs.Math.{Vec}
+use Rattle.tri.specs.Mapping.{Tri}
+use Rattle.mesh.specs.Mesh.{Mesh, meshOf, meshRefusal, maxNodes, maxPanels}
+use Rattle.coupling.specs.Bisection.{longestEdge, longestEdgeBisection}
+use Rattle.coupling.specs.Coupling.{isFar}
+use Rattle.linkage.specs.Energy.{inductiveEnergy}
+use Rattle.linkage.specs.Flux.{fluxLinkage, interactionEnergy, mapRefusal}
+use Rattle.display.specs.Display.{shown}
+
+-- ---- the sheet's numbers that have no name yet
+-- 2^-30
+abbrev pub small : Float
+small = bits 0x3e10_0000_0000_0000
+
+abbrev pub three : Float
+three = bits 0x4008_0000_0000_0000
+
+abbrev pub five : Float
+five = bits 0x4014_0000_0000_0000
+
+abbrev pub six : Float
+six = bits 0x4018_0000_0000_0000
+
+-- 5.000000000000001, the next number above 5
+abbrev pub aboveFive : Float
+aboveFive = bits 0x4014_0000_0000_0001
+
+-- ---- its panels
+-- corners (0,0,0), (1,0,0), (0,height,0) as a mesh
+abbrev pub thin : Float → Mesh
+thin height = meshOf (plusZero ∷ one ∷ plusZero ∷ []) (plusZero ∷ plusZero ∷ height ∷ []) (plusZero ∷ plusZero ∷ plusZero ∷ []) (0 ∷ []) (1 ∷ []) (2 ∷ [])
+
+-- (0,0,0), (3,0,0), (0,4,0), raised by z
+abbrev pub raised : Float → Tri
+raised z = (plusZero ∷ plusZero ∷ z ∷ []) ∷ (three ∷ plusZero ∷ z ∷ []) ∷ (plusZero ∷ four ∷ z ∷ []) ∷ []
+
+-- (0,0,0), (1,0,0), (0,1,0)
+abbrev pub unit : Tri
+unit = (plusZero ∷ plusZero ∷ plusZero ∷ []) ∷ (one ∷ plusZero ∷ plusZero ∷ []) ∷ (plusZero ∷ one ∷ plusZero ∷ []) ∷ []
+
+-- its halves at (0.5, 0.5, 0) between corners 1 and 2
+abbrev pub middle : Vec
+middle = half ∷ half ∷ plusZero ∷ []
+
+abbrev pub unitHalves : List Tri
+unitHalves =
+    ((one ∷ plusZero ∷ plusZero ∷ []) ∷ middle ∷ (plusZero ∷ plusZero ∷ plusZero ∷ []) ∷ [])
+    ∷ (middle ∷ (plusZero ∷ one ∷ plusZero ∷ []) ∷ (plusZero ∷ plusZero ∷ plusZero ∷ []) ∷ [])
+    ∷ []
+
+-- ---- its map, matrix and values
+abbrev pub sheetMap : List Float
+sheetMap = one ∷ two ∷ three ∷ four ∷ []
+
+abbrev pub sheetCoefficients : List Float
+sheetCoefficients = five ∷ six ∷ []
+
+abbrev pub identity : List Float
+identity = one ∷ plusZero ∷ plusZero ∷ one ∷ []
+
+-- the starred facts
+pub record BenchSheet : Type 0 where
+  -- (1 + 2^-30) × (1 − 2^-30) − 1 = −2^-60
+  pub fused : fma (one ⊕ small) (one ⊖ small) (neg one) ≡ neg (bits 0x3c30_0000_0000_0000)
+  pub root-of-minus-zero : sqrt (neg plusZero) ≡ neg plusZero
+  pub root-of-two : toBits binary64 (sqrt two) ≡ 0x3ff6_a09e_667f_3bcd
+  -- heights 2e-14 and 1.9e-14
+  pub thin-accepted : meshRefusal maxNodes maxPanels (thin (bits 0x3d16_849b_86a1_2b9b)) ≡ 0
+  pub thinner-refused : meshRefusal maxNodes maxPanels (thin (bits 0x3d15_6460_8cb2_b63a)) ≡ 4
+  pub near-at-five : isFar (raised plusZero) (raised five) ≡ false
+  pub far-above-five : isFar (raised plusZero) (raised aboveFive) ≡ true
+  -- edge 1 goes from corner 1 to corner 2
+  pub split-edge : longestEdge unit ≡ 1
+  pub split-point : longestEdgeBisection unit ≡ unitHalves
+  pub flux-17 : at (fluxLinkage sheetMap sheetCoefficients 2) 0 ≡ bits 0x4031_0000_0000_0000
+  pub flux-39 : at (fluxLinkage sheetMap sheetCoefficients 2) 1 ≡ bits 0x4043_8000_0000_0000
+  pub energy-56 : interactionEnergy sheetMap (one ∷ one ∷ []) sheetCoefficients ≡ bits 0x404c_0000_0000_0000
+  -- an empty map, no sources, one output
+  pub no-sources : mapRefusal 0 0 1 ≡ 8
+  pub energy-12-and-a-half : inductiveEnergy identity (three ∷ four ∷ []) ≡ bits 0x4029_0000_0000_0000
+  -- 1/1024 H
+  pub displayed : shown (bits 0x3f50_0000_0000_0000) ≡ pos 976563
