@@ -2,7 +2,7 @@
 # usage: build.sh SOURCE [OUT]
 # SOURCE holds the original's src/lib.rs, src/math.rs and so on; OUT is where the build goes (default: build, beside this file).
 # Lays out a cargo workspace in OUT: the original's files unchanged with what they need beside them (cfsem), the crate `oracle`
-# over them, and the programs `compare` and `kernels` that link it; builds the oracle for any x86-64 in release mode.
+# over them, and `compare` and `kernels`, which link it; builds the oracle for any x86-64 in release mode.
 # ORACLE_BUILDS="native debug" adds builds for this machine's processor and without optimisation.
 set -eu
 here=$(cd "$(dirname "$0")" && pwd)
@@ -38,6 +38,7 @@ cat "$source/src/mesh/triangle3d.rs" "$here/stubs/append_triangle3d.rs" | put "$
 
 package() { printf '[package]\nname = "%s"\nversion = "0.0.0"\nedition = "2024"\n' "$1"; }
 shim() { echo "$1 = { path = \"$here/shims/$1\" }"; }
+host() { echo "$1 = { path = \"$here/../host/$1\" }"; }
 {
   package cfsem
   printf '[features]\npython = []\n[dependencies]\n'
@@ -48,13 +49,13 @@ shim() { echo "$1 = { path = \"$here/shims/$1\" }"; }
   printf '[lib]\npath = "%s/reference/src/lib.rs"\ncrate-type = ["rlib", "staticlib"]\n' "$here"
   printf '[[bin]]\nname = "oracle"\npath = "%s/reference/src/main.rs"\n' "$here"
   printf '[dependencies]\ncfsem = { path = "../cfsem" }\n'
-  shim num-traits
+  shim num-traits; host cases
 } | put "$out/oracle/Cargo.toml"
 {
   package compare
-  printf 'build = "%s/compare/build.rs"\n' "$here"
   printf '[[bin]]\nname = "compare"\npath = "%s/compare/src/main.rs"\n' "$here"
   printf '[dependencies]\noracle = { path = "../oracle" }\n'
+  host replay
 } | put "$out/compare/Cargo.toml"
 {
   package kernels

@@ -1,20 +1,19 @@
 #!/usr/bin/env bash
-# usage: compare.sh SOURCE [SEED] [SCALE] [KIND]
-# Proves and builds our static library (and the program `density` once there is one), builds the original in SOURCE, and
-# compares the two on cases by seed. With `findings` for SEED it asks both what docs/DIFFERENCES.md lists.
-# Ends with the count of cases and `0 differ`; the exit status is 1 if any differ.
+# usage: compare.sh SOURCE [SEED [SCALE [KIND]] | soak MINUTES [SEED [SCALE]] | findings]
+# Proves and builds our static library and the program `density`, builds the original in SOURCE, and compares the two, ours
+# through the Rust crate of host/screens, on cases by seed. With `soak` it goes on with one seed after another for so many
+# minutes; with `findings` it asks both what docs/DIFFERENCES.md lists. Ends with the count of cases and `0 differ`; the exit
+# status is 1 if any differ.
 set -eu
 here=$(cd "$(dirname "$0")" && pwd)
-source=$(cd "${1:?usage: compare.sh SOURCE [SEED] [SCALE] [KIND]}" && pwd)
+source=$(cd "${1:?usage: compare.sh SOURCE [SEED [SCALE [KIND]] | soak MINUTES [SEED [SCALE]] | findings]}" && pwd)
 shift
 "$here/build.sh" "$source"
 (cd "$here/.." && rt staticlib screens | tail -n 1)
-if grep -q '^density:' "$here/../crates.txt"; then
-  (cd "$here/.." && rt check density | tail -n 1)
-  export SCREENS_DENSITY=$here/../target/bin/density
-fi
+(cd "$here/.." && rt check density | tail -n 1)
+export SCREENS_DENSITY=$here/../target/bin/density
 cd "$here/build"
 SCREENS_LIB=$here/../target/staticlib CARGO_NET_OFFLINE=true RUSTFLAGS="-A warnings" \
   cargo build -q --release -p compare --target-dir target
 # The original warns about poor panels on standard error.
-target/release/compare "$@" 2> compare.log || { grep -v '^warning: .* aspect ratio' compare.log >&2; exit 1; }
+target/release/compare "$@" 2> >(grep -v '^warning: .* aspect ratio' >&2)

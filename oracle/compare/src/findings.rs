@@ -1,7 +1,6 @@
 //! The surprising answers of docs/DIFFERENCES.md, asked of both: what the original answers and what ours does.
-use crate::ours;
 use oracle::calls::Mesh;
-use oracle::eval::{self, In, Out};
+use oracle::eval::{self, Out};
 
 type Vector = [f64; 3];
 
@@ -193,14 +192,14 @@ pub fn run() -> bool {
     {
         let due = eval::eval(eval::kind(kind).expect(kind), &input.0);
         println!("{finding:2} {kind}: {what}\n   original {}", shown(kind, &due));
-        match ours::CALLS.iter().find(|(name, _)| name == kind) {
-            Some((_, call)) => {
-                let got = call(&mut In::new(&input.0), Out::default()).0;
+        match replay::call(kind) {
+            Some(call) => {
+                let got = replay::answer(call, &input.0);
                 println!("   ours     {}", shown(kind, &got));
                 asked += 1;
                 differ += (got != due) as usize;
             }
-            None => println!("   ours     (not in our library yet)"),
+            None => println!("   ours     (no call of ours)"),
         }
     }
     println!(

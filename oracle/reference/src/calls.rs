@@ -1,5 +1,6 @@
 //! Document 01's calls over the original's functions. A refusal is its number.
 use crate::{canonical, inner, inner::Triangle};
+pub use ::cases::Mesh;
 use cfsem::mesh::TriangleMeshView;
 use cfsem::mesh::probe_triangle3d::probe as mesh_probe;
 use cfsem::physics::boundary_element as be;
@@ -10,55 +11,9 @@ pub const MAX_PANELS: usize = 8192;
 pub const DENSITY_NODES: usize = 64;
 pub const DENSITY_PANELS: usize = 128;
 
-/// Six columns: coordinates of the nodes, and the nodes of each panel.
-#[derive(Clone, Debug, Default)]
-pub struct Mesh {
-    pub x: Vec<f64>,
-    pub y: Vec<f64>,
-    pub z: Vec<f64>,
-    pub a: Vec<usize>,
-    pub b: Vec<usize>,
-    pub c: Vec<usize>,
-}
-
-impl Mesh {
-    pub fn nodes(&self) -> usize {
-        self.x.len()
-    }
-    pub fn panels(&self) -> usize {
-        self.a.len()
-    }
-    pub fn node(&self, i: usize) -> [f64; 3] {
-        [self.x[i], self.y[i], self.z[i]]
-    }
-    pub fn indices(&self, panel: usize) -> [usize; 3] {
-        [self.a[panel], self.b[panel], self.c[panel]]
-    }
-    pub fn triangle(&self, panel: usize) -> Triangle {
-        self.indices(panel).map(|k| self.node(k))
-    }
-    pub fn add_node(&mut self, p: [f64; 3]) {
-        self.x.push(p[0]);
-        self.y.push(p[1]);
-        self.z.push(p[2]);
-    }
-    pub fn add_panel(&mut self, p: [usize; 3]) {
-        self.a.push(p[0]);
-        self.b.push(p[1]);
-        self.c.push(p[2]);
-    }
-    pub fn of_panel(t: Triangle) -> Mesh {
-        let mut mesh = Mesh::default();
-        for corner in t {
-            mesh.add_node(corner);
-        }
-        mesh.add_panel([0, 1, 2]);
-        mesh
-    }
-    /// The original's own test and view.
-    pub fn view(&self) -> Result<TriangleMeshView<'_>, &'static str> {
-        TriangleMeshView::new((&self.x, &self.y, &self.z), (&self.a, &self.b, &self.c))
-    }
+/// The original's own test and view.
+pub fn view(mesh: &Mesh) -> Result<TriangleMeshView<'_>, &'static str> {
+    TriangleMeshView::new((&mesh.x, &mesh.y, &mesh.z), (&mesh.a, &mesh.b, &mesh.c))
 }
 
 /// 1, 2, 11, 3, 4 in the document's order; the original has no 11.
@@ -77,7 +32,7 @@ pub fn mesh_refusal_within(mesh: &Mesh, max_nodes: usize, max_panels: usize) -> 
     if n > max_nodes || p > max_panels {
         return 11;
     }
-    match mesh.view() {
+    match view(mesh) {
         Ok(_) => 0,
         Err("Triangle refers to non-existent node") => 3,
         Err("Triangle has zero area") => 4,
@@ -112,7 +67,7 @@ pub fn quadrature(rule: u64, mesh: &Mesh, lengths: [usize; 4]) -> Result<[Vec<f6
     accepted(mesh)?;
     let mut out = lengths.map(|l| vec![0.0; l]);
     let [x, y, z, weights] = &mut out;
-    be::triangle_mesh_quadrature_points(&mesh.view().unwrap(), kind, (x, y, z), weights).map_err(|_| 6u32)?;
+    be::triangle_mesh_quadrature_points(&view(mesh).unwrap(), kind, (x, y, z), weights).map_err(|_| 6u32)?;
     Ok(out)
 }
 
@@ -120,7 +75,7 @@ pub fn densities(mesh: &Mesh, values: &[f64], lengths: [usize; 3]) -> Result<[Ve
     accepted(mesh)?;
     let mut out = lengths.map(|l| vec![0.0; l]);
     let [x, y, z] = &mut out;
-    match be::triangle_mesh_current_density(&mesh.view().unwrap(), values, (x, y, z)) {
+    match be::triangle_mesh_current_density(&view(mesh).unwrap(), values, (x, y, z)) {
         Ok(()) => Ok(out),
         Err("Nodal scalar dimension mismatch") => Err(5),
         Err("Output dimension mismatch") => Err(6),
@@ -165,7 +120,7 @@ pub fn matrix(rule: u64, mesh: &Mesh, length: usize) -> Result<Vec<f64>, u32> {
     let kind = kind(rule)?;
     accepted(mesh)?;
     let mut out = vec![f64::NAN; length];
-    be::triangle_mesh_inductance_matrix(&mesh.view().unwrap(), kind, &mut out).map_err(|_| 6u32)?;
+    be::triangle_mesh_inductance_matrix(&view(mesh).unwrap(), kind, &mut out).map_err(|_| 6u32)?;
     Ok(out)
 }
 

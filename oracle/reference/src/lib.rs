@@ -1,18 +1,12 @@
 //! The answers that a port is held to: the original Rust, and over it what document 01 adds
 //! (refusal numbers, limits, the move, the panel file, the display value, the row).
 pub mod calls;
-pub mod cases;
 pub mod eval;
 pub mod generate;
 pub mod rng;
 pub mod selfcheck;
+pub use ::cases::{canonical, file as cases};
 pub use cfsem::physics::boundary_element::flux_density_triangle as inner;
-
-/// One number for every NaN.
-#[inline]
-pub fn canonical(x: f64) -> u64 {
-    if x.is_nan() { 0x7ff8_0000_0000_0000 } else { x.to_bits() }
-}
 
 /// For C: answers a case of the given kind (FORMAT.md). Writes at most `room` result words and returns how many there are.
 ///

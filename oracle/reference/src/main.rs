@@ -9,6 +9,7 @@ use std::process::ExitCode;
 const USAGE: &str =
     "oracle selfcheck                           document 01's bench sheet, findings, constants, tables, poor panels
 oracle generate SEED FILE [SCALE] [KIND]   cases by seed (FORMAT.md)
+oracle sample SEED FILE COUNT              COUNT small cases of each call by seed
 oracle check FILE                          answers the file's cases again and compares
 oracle statistics FILE                     refusals and sorts of results by kind
 oracle show FILE [KIND] [COUNT]            cases in hexadecimal
@@ -26,7 +27,13 @@ fn main() -> ExitCode {
         ["generate", seed, file, ref rest @ ..] => {
             let scale = rest.first().map_or(1.0, |s| s.parse().expect("SCALE"));
             let only = rest.get(1).map(|name| named(name));
-            generate_file(seed.parse().expect("SEED"), file, scale, only);
+            let seed = seed.parse().expect("SEED");
+            write_file(file, |each| generate::all(seed, scale, only, each));
+            true
+        }
+        ["sample", seed, file, count] => {
+            let (seed, count) = (seed.parse().expect("SEED"), count.parse().expect("COUNT"));
+            write_file(file, |each| generate::sample(seed, count, each));
             true
         }
         ["check", file] => check(file),
@@ -62,11 +69,12 @@ fn each_case(file: &str, each: impl FnMut(u32, &[u64], &[u64])) {
     cases::read(&std::fs::read(file).expect(file), each);
 }
 
-fn generate_file(seed: u64, file: &str, scale: f64, only: Option<u32>) {
+/// Writes the cases that `make` hands out, and prints how many there are of each kind.
+fn write_file(file: &str, make: impl FnOnce(&mut dyn FnMut(u32, &[u64], &[u64]))) {
     let mut out = BufWriter::new(std::fs::File::create(file).expect(file));
     let mut counts = BTreeMap::new();
     cases::write_mark(&mut out).unwrap();
-    generate::all(seed, scale, only, |kind, input, results| {
+    make(&mut |kind, input, results| {
         let (count, words) = counts.entry(kind).or_insert((0, 0));
         *count += 1;
         *words += 2 + input.len() + results.len();

@@ -295,7 +295,7 @@ fn meshes(seed: u64, count: usize) -> impl Iterator<Item = Mesh> {
 pub fn warn(seed: u64, count: usize) {
     for mesh in meshes(seed, count) {
         eprintln!("mesh");
-        let _ = mesh.view();
+        let _ = calls::view(&mesh);
     }
 }
 

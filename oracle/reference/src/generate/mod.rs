@@ -351,3 +351,24 @@ pub fn all(seed: u64, scale: f64, only: Option<u32>, mut each: impl FnMut(u32, &
         }
     }
 }
+
+/// The most words of a case of a sample, and the longest matrix or map whose row it asks for.
+const SAMPLE_WORDS: usize = 512;
+
+/// So many cases of every kind that is a call, by seed, small enough for a program with fixed buffers.
+pub fn sample(seed: u64, count: usize, mut each: impl FnMut(u32, &[u64], &[u64])) {
+    for kind in (1..=eval::NAMES.len() as u32).filter(|&kind| eval::name(kind) != "steps") {
+        let row = eval::name(kind).starts_with("row_");
+        let mut r = Rng(seed.wrapping_mul(0x2545f4914f6cdd1d) ^ ((kind as u64) << 48));
+        let mut left = count;
+        while left > 0 {
+            let input = one(kind, &mut r);
+            let results = eval(kind, &input);
+            let words = 2 + input.len() + results.len();
+            if words <= SAMPLE_WORDS && !(row && input[0] > SAMPLE_WORDS as u64) {
+                each(kind, &input, &results);
+                left -= 1;
+            }
+        }
+    }
+}

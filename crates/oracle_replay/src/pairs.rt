@@ -1,0 +1,78 @@
+// Pairs of panels.
+ghost use mathlib.Core.Path.{_≡_};
+ghost use Rattle.oracle_replay.specs.Kinds as Spec;
+use crate::words::same_flag;
+use crate::words::same_number;
+use crate::words::triangle;
+
+pub fn identical(f: &[f64; 512], w: &[u64; 512]) -> bool
+    ensures { λ r. ⌜ r ≡ Spec.identical (now (f .entry)) (now (w .entry)) ⌝ }
+{
+    same_flag(
+        boundary_element::identity::triangles_identical(triangle(f, 0), triangle(f, 9)),
+        w,
+        18,
+    )
+}
+
+pub fn box_distance(f: &[f64; 512], w: &[u64; 512]) -> bool
+    ensures { λ r. ⌜ r ≡ Spec.boxDistance (now (f .entry)) (now (w .entry)) ⌝ }
+{
+    same_number(
+        coupling::distance::triangle_aabb_distance_squared(triangle(f, 0), triangle(f, 9)),
+        w,
+        18,
+    )
+}
+
+pub fn panel_distance(f: &[f64; 512], w: &[u64; 512]) -> bool
+    ensures { λ r. ⌜ r ≡ Spec.panelDistance (now (f .entry)) (now (w .entry)) ⌝ }
+{
+    same_number(
+        coupling::distance::triangle_distance_squared(triangle(f, 0), triangle(f, 9)),
+        w,
+        18,
+    )
+}
+
+pub fn longest_edge(f: &[f64; 512], w: &[u64; 512]) -> bool
+    ensures { λ r. ⌜ r ≡ Spec.longestEdge (now (f .entry)) (now (w .entry)) ⌝ }
+{
+    same_number(
+        coupling::distance::triangle_max_edge_squared(triangle(f, 0)),
+        w,
+        9,
+    )
+}
+
+pub fn is_far(f: &[f64; 512], w: &[u64; 512]) -> bool
+    ensures { λ r. ⌜ r ≡ Spec.isFar (now (f .entry)) (now (w .entry)) ⌝ }
+{
+    same_flag(
+        coupling::coupling::is_far(triangle(f, 0), triangle(f, 9)),
+        w,
+        18,
+    )
+}
+
+// By the kind's number.
+pub fn agree(kind: u64, f: &[f64; 512], w: &[u64; 512]) -> bool
+    ensures { λ r. ⌜ r ≡ Spec.pairsAgree kind (now (f .entry)) (now (w .entry)) ⌝ }
+{
+    if kind == 41 {
+        return identical(f, w);
+    }
+    if kind == 54 {
+        return box_distance(f, w);
+    }
+    if kind == 55 {
+        return panel_distance(f, w);
+    }
+    if kind == 56 {
+        return longest_edge(f, w);
+    }
+    if kind == 57 {
+        return is_far(f, w);
+    }
+    false
+}

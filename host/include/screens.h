@@ -1,0 +1,287 @@
+/* screens.h: inductance of conducting screens given as triangle panels.
+ *
+ * The functions of libscreens.a, which `rt staticlib screens` writes to target/staticlib. Each is proved to meet its
+ * contract for all inputs: it ends, reads and writes only what it is lent, and answers what docs/PROMISES.md says.
+ *
+ *   cc -std=c99 program.c -Ihost/include target/staticlib/libscreens.a -o program
+ *
+ * Units are metres, amperes, henries. Nodes, panels and corners are counted from 0.
+ *
+ * Numbers. A call that returns uint32_t returns 0 if it is done and otherwise the number of its refusal:
+ *    1 node columns     the three coordinate columns differ in length
+ *    2 panel columns    the three index columns differ in length
+ *    3 missing node     an index is not below the node count
+ *    4 zero area        a panel's area is below 1e-14
+ *    5 nodal values     nodal lengths differ from the node count or each other
+ *    6 output           an output length is not the one due (a moved matrix too)
+ *    7 matrix           a given matrix's length is not n * n
+ *    8 coefficients     no sources, but map, output or nodal values are not empty
+ *    9 map              the map's length is not a multiple of the source count
+ *   10 flux             output or nodal length is not map length / sources
+ *   11 too large        more than 4,096 nodes, 8,192 panels, or 4,096 nodal values against a matrix
+ *   12 no such choice   a quadrature rule outside 1 to 5, or a corner above 2
+ *   13 no such node     the named node is not below the count
+ *   14 mark             a file under 9 bytes, or its mark or version is wrong
+ *   15 file length      the length is not the one the counts give
+ *   16 display          not finite, or rounded size above 10^15 nanohenries
+ * The numbers that a function can return stand at it in the order in which they are looked for. On a refusal every lent
+ * single number (value, count, offset, length) is set to 0, and every lent slice is as it was.
+ *
+ * Slices. A slice is a pointer and its length in elements, in that order. The pointer must not be null, must be aligned for
+ * its type and must be good for that many elements; for an empty slice any such pointer will do, as the address of any
+ * variable of the type. A pointer to a single number must be good for one.
+ *
+ * What is written must not overlap anything else that is lent to the call. What is only read may overlap.
+ *
+ * Triangles are nine numbers, corner after corner; a0, a1, a2 is x, y, z of corner a. A mesh is six columns: x, y, z of the
+ * nodes, and for each panel the nodes t0, t1, t2 of its corners; every call tests its mesh itself.
+ *
+ * The functions keep nothing, allocate nothing and take no lock: any number of threads may call them at once. Give a thread
+ * that calls them at least 2 MB of stack: they are tested on such threads, and may run out on smaller ones. size_t has 64
+ * bits: the library is for x86-64.
+ */
+#ifndef SCREENS_H
+#define SCREENS_H
+
+#include <stdbool.h>
+#include <stddef.h>
+#include <stdint.h>
+
+#ifdef __cplusplus
+extern "C" {
+#endif
+
+/* ---- arithmetic: no refusals ------------------------------------------------------------------------------------- */
+
+/* a * b + c, rounded once (IEEE 754 fusedMultiplyAdd). */
+double screens_mul_add(double a, double b, double c);
+
+/* a * a + c, rounded once. */
+double screens_square_add(double a, double c);
+
+/* The root, rounded once (IEEE 754 squareRoot). */
+double screens_sqrt(double x);
+
+/* The smaller number: the other one if one is NaN, the first of two equal ones. */
+double screens_min(double a, double b);
+
+/* The larger number: the other one if one is NaN, the first of two equal ones. */
+double screens_max(double a, double b);
+
+/* lo if x is below it, hi if x is above it, otherwise x; NaN stays NaN. */
+double screens_clamp(double x, double lo, double hi);
+
+/* The size of a number. */
+double screens_abs(double x);
+
+/* The natural logarithm, by document 01's series. */
+double screens_ln(double x);
+
+/* The inverse hyperbolic sine, by document 01's series. */
+double screens_asinh(double x);
+
+/* The angle of the point (x, y), by document 01's series. */
+double screens_atan2(double y, double x);
+
+/* ---- vectors: out has 3 places; another length is 6 -------------------------------------------------------------- */
+
+/* The scalar product, fused. */
+double screens_dot3(double a0, double a1, double a2, double b0, double b1, double b2);
+
+/* The length. */
+double screens_norm3(double a0, double a1, double a2);
+
+/* The cross product, fused. Refuses with 6. */
+uint32_t screens_cross3(double a0, double a1, double a2, double b0, double b1, double b2, double *out, size_t n);
+
+/* a - b. Refuses with 6. */
+uint32_t screens_sub3(double a0, double a1, double a2, double b0, double b1, double b2, double *out, size_t n);
+
+/* a + b. Refuses with 6. */
+uint32_t screens_add3(double a0, double a1, double a2, double b0, double b1, double b2, double *out, size_t n);
+
+/* scale * a. Refuses with 6. */
+uint32_t screens_scale3(double a0, double a1, double a2, double scale, double *out, size_t n);
+
+/* a + scale * b, fused. Refuses with 6. */
+uint32_t screens_add_scaled3(double a0, double a1, double a2, double b0, double b1, double b2, double scale,
+    double *out, size_t n);
+
+/* a over its length. Refuses with 6. */
+uint32_t screens_normalize3(double a0, double a1, double a2, double *out, size_t n);
+
+/* ---- one panel, with corners a, b and c: any triangle is taken, degenerate or not -------------------------------- */
+
+/* The area (square metres). */
+double screens_area(double a0, double a1, double a2, double b0, double b1, double b2, double c0, double c1, double c2);
+
+/* 1 for equal edges, towards 0 for a sliver; a panel is poor if it is below 1e-3. */
+double screens_quality(double a0, double a1, double a2, double b0, double b1, double b2, double c0, double c1,
+    double c2);
+
+/* The unit normal: 3 places. Refuses with 6. */
+uint32_t screens_normal(double a0, double a1, double a2, double b0, double b1, double b2, double c0, double c1,
+    double c2, double *out, size_t n);
+
+/* The point at (u, v) of the reference triangle (metres): 3 places. Refuses with 6. */
+uint32_t screens_map_point(double a0, double a1, double a2, double b0, double b1, double b2, double c0, double c1,
+    double c2, double u, double v, double *out, size_t n);
+
+/* The triangle's point closest to (x, y, z) (metres): 3 places. Refuses with 6. */
+uint32_t screens_closest_point(double x, double y, double z, double a0, double a1, double a2, double b0, double b1,
+    double b2, double c0, double c1, double c2, double *out, size_t n);
+
+/* The panel's record: corners 9, normal 3, edge tangents 9, outward edges 9, edge lengths 3, longest edge 1: 34
+   places. Refuses with 6. */
+uint32_t screens_record(double a0, double a1, double a2, double b0, double b1, double b2, double c0, double c1,
+    double c2, double *out, size_t n);
+
+/* The potential (metres) of the panel at (x, y, z). */
+double screens_potential(double a0, double a1, double a2, double b0, double b1, double b2, double c0, double c1,
+    double c2, double x, double y, double z);
+
+/* The gradient of the potential: 3 places. Refuses with 6. */
+uint32_t screens_gradient(double a0, double a1, double a2, double b0, double b1, double b2, double c0, double c1,
+    double c2, double x, double y, double z, double *out, size_t n);
+
+/* Whether (x, y, z) lies on the panel, within the original's tolerance. */
+bool screens_contact(double a0, double a1, double a2, double b0, double b1, double b2, double c0, double c1,
+    double c2, double x, double y, double z);
+
+/* The current densities (1/m) of a unit value at each corner, corner after corner: 9 places. Refuses with 6. */
+uint32_t screens_basis_current_densities(double a0, double a1, double a2, double b0, double b1, double b2, double c0,
+    double c1, double c2, double *out, size_t n);
+
+/* The current density (A/m) of the values s (amperes) at the corners: 3 places. Refuses with 6. */
+uint32_t screens_current_density(double a0, double a1, double a2, double b0, double b1, double b2, double c0,
+    double c1, double c2, double s0, double s1, double s2, double *out, size_t n);
+
+/* The two halves of the triangle, cut at its longest edge: 18 places. Refuses with 6. */
+uint32_t screens_longest_edge_bisection(double a0, double a1, double a2, double b0, double b1, double b2, double c0,
+    double c1, double c2, double *out, size_t n);
+
+/* The squared length (square metres) of the longest edge. */
+double screens_triangle_max_edge_squared(double a0, double a1, double a2, double b0, double b1, double b2, double c0,
+    double c1, double c2);
+
+/* ---- two panels: source a, b, c and target d, e, f --------------------------------------------------------------- */
+
+/* Whether each corner of the source is within 1e-12 m of some corner of the target. */
+bool screens_triangles_identical(double a0, double a1, double a2, double b0, double b1, double b2, double c0,
+    double c1, double c2, double d0, double d1, double d2, double e0, double e1, double e2, double f0, double f1,
+    double f2);
+
+/* The squared distance (square metres) of the boxes around them. */
+double screens_triangle_aabb_distance_squared(double a0, double a1, double a2, double b0, double b1, double b2,
+    double c0, double c1, double c2, double d0, double d1, double d2, double e0, double e1, double e2, double f0,
+    double f1, double f2);
+
+/* The squared distance (square metres) of the panels. */
+double screens_triangle_distance_squared(double a0, double a1, double a2, double b0, double b1, double b2, double c0,
+    double c1, double c2, double d0, double d1, double d2, double e0, double e1, double e2, double f0, double f1,
+    double f2);
+
+/* Whether the far rule is used for the pair. */
+bool screens_is_far(double a0, double a1, double a2, double b0, double b1, double b2, double c0, double c1, double c2,
+    double d0, double d1, double d2, double e0, double e1, double e2, double f0, double f1, double f2);
+
+/* The geometric coupling (cubic metres), under quadrature rule 1 to 5. Refuses with 12. */
+uint32_t screens_coupling(uint32_t rule, double a0, double a1, double a2, double b0, double b1, double b2, double c0,
+    double c1, double c2, double d0, double d1, double d2, double e0, double e1, double e2, double f0, double f1,
+    double f2, double *value);
+
+/* The far rule's coupling (cubic metres) from source to target only. Refuses with 12. */
+uint32_t screens_coupling_regular(uint32_t rule, double a0, double a1, double a2, double b0, double b1, double b2,
+    double c0, double c1, double c2, double d0, double d1, double d2, double e0, double e1, double e2, double f0,
+    double f1, double f2, double *value);
+
+/* The inductance (henries) between corner i of the source and corner j of the target. Refuses with 12, also for a
+   corner above 2. */
+uint32_t screens_mutual_inductance(uint32_t rule, double a0, double a1, double a2, double b0, double b1, double b2,
+    double c0, double c1, double c2, size_t i, double d0, double d1, double d2, double e0, double e1, double e2,
+    double f0, double f1, double f2, size_t j, double *value);
+
+/* The inductances (henries) between all corners, a row a source corner: 9 places. Refuses with 12, 6. */
+uint32_t screens_mutual_inductance_block(uint32_t rule, double a0, double a1, double a2, double b0, double b1,
+    double b2, double c0, double c1, double c2, double d0, double d1, double d2, double e0, double e1, double e2,
+    double f0, double f1, double f2, double *out, size_t n);
+
+/* The sum of s * block * t (H A^2) for a block of nine numbers m, row by row, and values s of the source and t of
+   the target (amperes). */
+double screens_inductance_from_potentials(double m0, double m1, double m2, double m3, double m4, double m5, double m6,
+    double m7, double m8, double s0, double s1, double s2, double t0, double t1, double t2);
+
+/* ---- meshes ------------------------------------------------------------------------------------------------------ */
+
+/* Tests a mesh; the count of poor panels goes to poor. Refuses with 1, 2, 11, 3, 4. */
+uint32_t screens_mesh_test(const double *x, size_t nx, const double *y, size_t ny, const double *z, size_t nz,
+    const size_t *t0, size_t nt0, const size_t *t1, size_t nt1, const size_t *t2, size_t nt2, size_t *poor);
+
+/* The current density (A/m) of each panel for nodal values s (amperes, one a node): jx, jy, jz have one place a
+   panel. Refuses with 1, 2, 11, 3, 4, 5, 6. */
+uint32_t screens_mesh_current_density(const double *x, size_t nx, const double *y, size_t ny, const double *z,
+    size_t nz, const size_t *t0, size_t nt0, const size_t *t1, size_t nt1, const size_t *t2, size_t nt2,
+    const double *s, size_t ns, double *jx, size_t njx, double *jy, size_t njy, double *jz, size_t njz);
+
+/* The quadrature points (metres) of each panel and their area weights (square metres): panels times 1, 3, 4, 6 or
+   7 places under rule 1 to 5, panel after panel. Refuses with 12, 1, 2, 11, 3, 4, 6. */
+uint32_t screens_mesh_quadrature_points(uint32_t rule, const double *x, size_t nx, const double *y, size_t ny,
+    const double *z, size_t nz, const size_t *t0, size_t nt0, const size_t *t1, size_t nt1, const size_t *t2,
+    size_t nt2, double *px, size_t npx, double *py, size_t npy, double *pz, size_t npz, double *pw, size_t npw);
+
+/* The inductance matrix (henries) under rule 1 to 5, row by row: n * n places for n nodes. Refuses with 12, 1, 2,
+   11, 3, 4, 6. */
+uint32_t screens_mesh_inductance_matrix(uint32_t rule, const double *x, size_t nx, const double *y, size_t ny,
+    const double *z, size_t nz, const size_t *t0, size_t nt0, const size_t *t1, size_t nt1, const size_t *t2,
+    size_t nt2, double *out, size_t n);
+
+/* Moves a node to the place (px, py, pz) (metres): writes its coordinates, renews the cells of the matrix (n * n
+   places) whose row or column is of a node of its panels, and counts them. A matrix that was the mesh's under this
+   rule is then the moved mesh's, bit for bit. Refuses with 12, 1, 2, 11, 3, 4, 6, 13, then 4 on the moved mesh;
+   columns and matrix are then as they were. */
+uint32_t screens_move_node(uint32_t rule, double *x, size_t nx, double *y, size_t ny, double *z, size_t nz,
+    const size_t *t0, size_t nt0, const size_t *t1, size_t nt1, const size_t *t2, size_t nt2, double *matrix,
+    size_t n, size_t node, double px, double py, double pz, size_t *count);
+
+/* ---- matrices and maps ------------------------------------------------------------------------------------------- */
+
+/* The sum of s * matrix * t (H A^2) for nodal values s and t (amperes). Refuses with 5, 11, 7. */
+uint32_t screens_mesh_inductance_from_potentials(const double *matrix, size_t nmatrix, const double *s, size_t ns,
+    const double *t, size_t nt, double *value);
+
+/* The energy (joules) of nodal values s: half of that sum with itself. Refuses with 11, 7. */
+uint32_t screens_mesh_inductive_energy(const double *matrix, size_t nmatrix, const double *s, size_t ns,
+    double *value);
+
+/* The flux linkage of each node, for a map with a row a node and a coefficient a source: one place a row. Refuses
+   with 8, 9, 10. */
+uint32_t screens_mesh_flux_linkage(const double *map, size_t nmap, const double *coefficients, size_t ncoefficients,
+    double *out, size_t nout);
+
+/* The interaction energy of nodal values and source coefficients. Refuses with 8, 9, 10. */
+uint32_t screens_mesh_interaction_energy(const double *map, size_t nmap, const double *values, size_t nvalues,
+    const double *coefficients, size_t ncoefficients, double *value);
+
+/* Where the row of a node begins in a matrix of n nodes, and how long it is. Refuses with 11, 7, 13. */
+uint32_t screens_matrix_row(const double *matrix, size_t nmatrix, size_t n, size_t node, size_t *offset,
+    size_t *length);
+
+/* Where the row of a node begins in a map of so many sources, and how long it is. Refuses with 8, 9, 13. */
+uint32_t screens_map_row(const double *map, size_t nmap, size_t sources, size_t node, size_t *offset, size_t *length);
+
+/* ---- files and display ------------------------------------------------------------------------------------------- */
+
+/* Reads a panel file of so many bytes into six columns of exactly its counts of nodes and panels, which stand in
+   bytes 5, 6 and 7, 8 (16 bits, little-endian). Refuses with 14, 11, 15, 3, 4, 6. */
+uint32_t screens_read_panel_file(const uint8_t *file, size_t nfile, double *x, size_t nx, double *y, size_t ny,
+    double *z, size_t nz, size_t *t0, size_t nt0, size_t *t1, size_t nt1, size_t *t2, size_t nt2);
+
+/* The display value of an inductance (henries): whole nanohenries, rounded once, halves away from zero. Refuses
+   with 16. */
+uint32_t screens_display(double x, int64_t *value);
+
+#ifdef __cplusplus
+}
+#endif
+
+#endif

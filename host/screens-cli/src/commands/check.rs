@@ -1,0 +1,45 @@
+//! `screens check`
+use super::Command;
+use crate::args::Args;
+use crate::failure::Failure;
+use crate::panels;
+use std::ffi::OsString;
+
+pub(super) const COMMAND: Command = Command {
+    name: "check",
+    help: "\
+usage: screens check FILE
+
+Tests a panel file as every call does, and says what it holds. A panel is poor if its quality is below 1e-3 (1 for equal edges,
+towards 0 for a sliver); poor panels are accepted, but look at them (`screens plot` marks them).
+
+  screens check examples/plate.pnl
+
+prints
+
+  examples/plate.pnl: accepted
+  nodes 289
+  panels 512
+  poor panels 0
+  nodes that are not finite 0
+",
+    run,
+};
+
+fn run(words: Vec<OsString>) -> Result<String, Failure> {
+    let mut args = Args::new(words, &[])?;
+    let path = args.path("FILE")?;
+    args.end()?;
+    let mesh = panels::read(&path)?;
+    let view = mesh.view();
+    let strange = (0..view.nnode())
+        .filter(|&i| view.node(i).iter().any(|x| !x.is_finite()))
+        .count();
+    Ok(format!(
+        "{}: accepted\nnodes {}\npanels {}\npoor panels {}\nnodes that are not finite {strange}\n",
+        path.display(),
+        view.nnode(),
+        view.len(),
+        view.poor_panels(),
+    ))
+}

@@ -1,0 +1,293 @@
+//! NumPy's file format for float64 in C order: a mark, a version, a dictionary as text, then the numbers, little-endian.
+use crate::failure::Failure;
+use crate::files;
+use screens::Refusal;
+use screens::mesh::MAX_NODES;
+use std::fs::File;
+use std::io::{self, Write};
+use std::path::Path;
+
+const MARK: &[u8; 6] = b"\x93NUMPY";
+/// The longest dictionary that is read. One of these files has some hundred bytes.
+const LONGEST_HEADER: usize = 1 << 16;
+
+/// A square matrix, row by row.
+pub(crate) struct Matrix {
+    pub(crate) n: usize,
+    pub(crate) cells: Vec<f64>,
+}
+
+impl Matrix {
+    /// A matrix of zeros.
+    pub(crate) fn zeros(n: usize) -> Self {
+        Matrix {
+            n,
+            cells: vec![0.0; n * n],
+        }
+    }
+
+    /// Reads a matrix of at most 4,096 rows; more is refused with 11.
+    pub(crate) fn read(path: &Path) -> Result<Self, Failure> {
+        let mut file = files::open(path)?;
+        let shape = read_shape(&mut file, path)?;
+        let [n, columns] = shape[..] else {
+            return Err(Failure::file(path, format!("not a matrix: its shape is {shape:?}")));
+        };
+        if n != columns {
+            return Err(Failure::file(
+                path,
+                format!("not a square matrix: its shape is {shape:?}"),
+            ));
+        }
+        if n > MAX_NODES {
+            return Err(Failure::refused(path, Refusal::TooLarge));
+        }
+        Ok(Matrix {
+            n,
+            cells: read_numbers(&mut file, path, n * n)?,
+        })
+    }
+
+    /// Writes the file of the matrix.
+    pub(crate) fn write(&self, out: &mut dyn Write) -> io::Result<()> {
+        out.write_all(&head(&format!("({n}, {n})", n = self.n)))?;
+        self.cells
+            .iter()
+            .try_for_each(|cell| out.write_all(&cell.to_le_bytes()))
+    }
+
+    /// A sentence on cells that are not finite, if there are any.
+    pub(crate) fn note(&self) -> String {
+        match self.cells.iter().filter(|cell| !cell.is_finite()).count() {
+            0 => String::new(),
+            count => format!("note: {count} cells are not finite; look at the nodes of the panel file\n"),
+        }
+    }
+}
+
+/// Reads a row of numbers whose mark has been recognised by [`is_npy`].
+pub(crate) fn read_vector(path: &Path, most: usize) -> Result<Vec<f64>, Failure> {
+    let mut file = files::open(path)?;
+    let shape = read_shape(&mut file, path)?;
+    match shape[..] {
+        [n] if n <= most => read_numbers(&mut file, path, n),
+        [_] => Err(Failure::refused(path, Refusal::TooLarge)),
+        _ => Err(Failure::file(
+            path,
+            format!("not one row of numbers: its shape is {shape:?}"),
+        )),
+    }
+}
+
+/// Whether bytes begin as a NumPy file does.
+pub(crate) fn is_npy(bytes: &[u8]) -> bool {
+    bytes.starts_with(MARK)
+}
+
+/// Mark, version, length and dictionary, filled up with spaces to a multiple of 64 bytes.
+fn head(shape: &str) -> Vec<u8> {
+    let mut text = format!("{{'descr': '<f8', 'fortran_order': False, 'shape': {shape}, }}");
+    let before = MARK.len() + 4;
+    let spaces = (before + text.len() + 1).next_multiple_of(64) - (before + text.len() + 1);
+    text.extend(std::iter::repeat_n(' ', spaces));
+    text.push('\n');
+    let length = u16::try_from(text.len()).expect("a short header");
+    [MARK, &[1, 0][..], &length.to_le_bytes(), text.as_bytes()].concat()
+}
+
+/// Reads up to the numbers and yields the shape.
+fn read_shape(file: &mut File, path: &Path) -> Result<Vec<usize>, Failure> {
+    let bad = |what: &str| Failure::file(path, format!("not a NumPy file of float64: {what}"));
+    let start = files::read_at_most(file, path, 8)?;
+    if start.len() < 8 || !is_npy(&start) {
+        return Err(bad("it does not begin with the mark"));
+    }
+    let digits = match start[6] {
+        1 => 2,
+        2 | 3 => 4,
+        _ => return Err(bad("its version is none of 1, 2 and 3")),
+    };
+    let count = files::read_at_most(file, path, digits)?;
+    if count.len() < digits as usize {
+        return Err(bad("it is cut short"));
+    }
+    let length = count.iter().rev().fold(0, |n, byte| n << 8 | usize::from(*byte));
+    if length > LONGEST_HEADER {
+        return Err(bad("its header is too long"));
+    }
+    let text = files::read_at_most(file, path, length as u64)?;
+    if text.len() < length {
+        return Err(bad("it is cut short"));
+    }
+    parse(&String::from_utf8_lossy(&text)).map_err(|what| bad(&what))
+}
+
+/// Reads so many numbers, which must be all that is left.
+fn read_numbers(file: &mut File, path: &Path, count: usize) -> Result<Vec<f64>, Failure> {
+    let due = 8 * count as u64;
+    let bytes = files::read_at_most(file, path, due + 1)?;
+    if bytes.len() as u64 != due {
+        let what = if (bytes.len() as u64) < due {
+            "it is cut short"
+        } else {
+            "something stands behind its numbers"
+        };
+        return Err(Failure::file(
+            path,
+            format!("{what}: its shape needs {due} bytes of numbers"),
+        ));
+    }
+    let (words, _) = bytes.as_chunks::<8>();
+    Ok(words.iter().map(|word| f64::from_le_bytes(*word)).collect())
+}
+
+/// The shape in a dictionary whose other entries are those of float64 in C order.
+fn parse(text: &str) -> Result<Vec<usize>, String> {
+    let mut words = Words(text.trim());
+    let (mut descr, mut order, mut shape) = (None, None, None);
+    words.expect("{")?;
+    while !words.take("}") {
+        let key = words.quoted()?;
+        words.expect(":")?;
+        match key {
+            "descr" => descr = Some(words.quoted().map_err(|_| "its numbers are of a compound type")?),
+            "fortran_order" => order = Some(words.name()),
+            "shape" => shape = Some(words.tuple()?),
+            _ => return Err(format!("its header has an entry {key}")),
+        }
+        if !words.take(",") && !words.0.starts_with('}') {
+            return Err("its header cannot be read".into());
+        }
+    }
+    match descr {
+        Some("<f8") => {}
+        Some(other) => return Err(format!("its numbers are {other}, not <f8")),
+        None => return Err("its header has no descr".into()),
+    }
+    match order {
+        Some("False") => {}
+        Some("True") => return Err("it is in Fortran order".into()),
+        _ => return Err("its header has no fortran_order".into()),
+    }
+    shape.ok_or_else(|| "its header has no shape".into())
+}
+
+/// What is left of a dictionary's text.
+struct Words<'a>(&'a str);
+
+impl<'a> Words<'a> {
+    /// Takes a word if it stands next.
+    fn take(&mut self, word: &str) -> bool {
+        match self.0.strip_prefix(word) {
+            Some(rest) => {
+                self.0 = rest.trim_start();
+                true
+            }
+            None => false,
+        }
+    }
+
+    fn expect(&mut self, word: &str) -> Result<(), String> {
+        if self.take(word) {
+            Ok(())
+        } else {
+            Err("its header cannot be read".into())
+        }
+    }
+
+    /// A text in quotes.
+    fn quoted(&mut self) -> Result<&'a str, String> {
+        let quote = if self.0.starts_with('"') { '"' } else { '\'' };
+        let inner = self.0.strip_prefix(quote).and_then(|rest| rest.split_once(quote));
+        let (text, rest) = inner.ok_or("its header cannot be read")?;
+        self.0 = rest.trim_start();
+        Ok(text)
+    }
+
+    /// A run of letters and digits.
+    fn name(&mut self) -> &'a str {
+        let end = self
+            .0
+            .find(|c: char| !c.is_ascii_alphanumeric())
+            .unwrap_or(self.0.len());
+        let (name, rest) = self.0.split_at(end);
+        self.0 = rest.trim_start();
+        name
+    }
+
+    /// Whole numbers in parentheses.
+    fn tuple(&mut self) -> Result<Vec<usize>, String> {
+        self.expect("(")?;
+        let mut numbers = vec![];
+        while !self.take(")") {
+            numbers.push(self.name().parse().map_err(|_| "its shape cannot be read")?);
+            if !self.take(",") && !self.0.starts_with(')') {
+                return Err("its shape cannot be read".into());
+            }
+        }
+        Ok(numbers)
+    }
+}
+
+#[cfg(test)]
+mod tests {
+    use super::*;
+
+    #[test]
+    fn heads_are_as_numpy_writes_them() {
+        let head = head("(289, 289)");
+        assert_eq!(head.len(), 128);
+        assert_eq!(&head[..10], b"\x93NUMPY\x01\x00\x76\x00");
+        let text = std::str::from_utf8(&head[10..]).unwrap();
+        assert!(text.starts_with("{'descr': '<f8', 'fortran_order': False, 'shape': (289, 289), }   "));
+        assert!(text.ends_with(" \n"));
+        assert_eq!(parse(text), Ok(vec![289, 289]));
+    }
+
+    #[test]
+    fn dictionaries_in_other_layouts() {
+        let other = r#"{"shape":(2,3,),"fortran_order":False,"descr":"<f8"}"#;
+        assert_eq!(parse(other), Ok(vec![2, 3]));
+        assert_eq!(
+            parse("{'descr': '<f8', 'fortran_order': False, 'shape': (7,), }"),
+            Ok(vec![7])
+        );
+        assert_eq!(
+            parse("{'descr': '<f8', 'fortran_order': False, 'shape': ()}"),
+            Ok(vec![])
+        );
+    }
+
+    #[test]
+    fn what_is_wrong_is_said() {
+        let message = |text: &str| parse(text).unwrap_err();
+        assert_eq!(
+            message("{'descr': '<f4', 'fortran_order': False, 'shape': (1, 1)}"),
+            "its numbers are <f4, not <f8"
+        );
+        assert_eq!(
+            message("{'descr': '<f8', 'fortran_order': True, 'shape': (1, 1)}"),
+            "it is in Fortran order"
+        );
+        assert_eq!(
+            message("{'descr': '<f8', 'fortran_order': False}"),
+            "its header has no shape"
+        );
+        assert_eq!(
+            message("{'descr': [('a', '<f8')], 'x': 1}"),
+            "its numbers are of a compound type"
+        );
+        for text in [
+            "",
+            "{",
+            "{'descr'",
+            "{'descr': '<f8'",
+            "{'shape': (1",
+            "{'shape': (-1,)",
+            "{'shape': (1 2)}",
+        ] {
+            assert!(parse(text).is_err(), "{text}");
+        }
+        assert!(parse("{'descr': '<f8', 'fortran_order': False, 'shape': (99999999999999999999, 1)}").is_err());
+    }
+}

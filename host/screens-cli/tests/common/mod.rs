@@ -1,0 +1,114 @@
+//! A folder for a test, and the tool run in it.
+#![allow(dead_code)] // no test uses all of it
+use screens::{QuadratureKind, TriangleMesh, triangle_mesh_inductance_matrix};
+use std::collections::BTreeMap;
+use std::ffi::OsStr;
+use std::path::{Path, PathBuf};
+use std::process::{Command, Output, Stdio};
+
+/// A new folder, with the examples and a small screen in it; removed at the end.
+pub(crate) struct Folder(pub(crate) PathBuf);
+
+impl Folder {
+    pub(crate) fn new(name: &str) -> Self {
+        let folder = Path::new(env!("CARGO_TARGET_TMPDIR")).join(format!("{name}-{}", std::process::id()));
+        let _ = std::fs::remove_dir_all(&folder);
+        std::fs::create_dir_all(&folder).unwrap();
+        let examples = Path::new(env!("CARGO_MANIFEST_DIR")).join("../../examples");
+        for name in ["plate.pnl", "bent.pnl", "hole.pnl"] {
+            std::fs::copy(examples.join(name), folder.join(name)).unwrap();
+        }
+        let folder = Folder(folder);
+        folder.small_screen();
+        folder
+    }
+
+    /// `square.pnl`, a square metre of two panels, its matrix `square.npy` under rule 3, nodal values in `values.txt`, and
+    /// `strange.pnl`, the square with a node that is not finite, a poor panel and a node in no panel.
+    fn small_screen(&self) {
+        let mesh = square();
+        let mut matrix = vec![0.0; 16];
+        triangle_mesh_inductance_matrix(&mesh.view(), QuadratureKind::Dunavant3, &mut matrix).unwrap();
+        self.put("square.pnl", &mesh.to_panel_file());
+        self.put("square.npy", &npy("(4, 4)", &matrix));
+        self.put("values.txt", b"1 2 4 8 # amperes\n");
+        self.put("strange.pnl", &strange().to_panel_file());
+    }
+
+    pub(crate) fn put(&self, name: &str, bytes: &[u8]) {
+        std::fs::write(self.0.join(name), bytes).unwrap();
+    }
+
+    pub(crate) fn get(&self, name: &str) -> Vec<u8> {
+        std::fs::read(self.0.join(name)).unwrap()
+    }
+
+    /// Every file's name and its bytes; of a file of more than a million bytes its length.
+    pub(crate) fn contents(&self) -> BTreeMap<PathBuf, Vec<u8>> {
+        let entries = std::fs::read_dir(&self.0).unwrap().map(|entry| entry.unwrap());
+        let read = |entry: std::fs::DirEntry| {
+            let data = entry.metadata().unwrap();
+            let bytes = match data.is_file() && data.len() <= 1_000_000 {
+                true => std::fs::read(entry.path()).unwrap(),
+                false => data.len().to_string().into_bytes(),
+            };
+            (entry.path(), bytes)
+        };
+        entries.map(read).collect()
+    }
+
+    pub(crate) fn command<S: AsRef<OsStr>>(&self, words: &[S]) -> Command {
+        let mut command = Command::new(env!("CARGO_BIN_EXE_screens"));
+        command.args(words).current_dir(&self.0).stdin(Stdio::null());
+        command
+    }
+
+    pub(crate) fn run<S: AsRef<OsStr>>(&self, words: &[S]) -> Ran {
+        let Output { status, stdout, stderr } = self.command(words).output().unwrap();
+        let text = |bytes: Vec<u8>| String::from_utf8_lossy(&bytes).into_owned();
+        let ran = Ran {
+            status: status.code(),
+            out: text(stdout),
+            err: text(stderr),
+        };
+        assert!(!ran.err.contains("panicked"), "{}", ran.err);
+        ran
+    }
+}
+
+impl Drop for Folder {
+    fn drop(&mut self) {
+        let _ = std::fs::remove_dir_all(&self.0);
+    }
+}
+
+/// What the tool said.
+#[derive(Debug, PartialEq)]
+pub(crate) struct Ran {
+    pub(crate) status: Option<i32>,
+    pub(crate) out: String,
+    pub(crate) err: String,
+}
+
+pub(crate) fn square() -> TriangleMesh {
+    let nodes = (vec![0.0, 1.0, 0.0, 1.0], vec![0.0, 0.0, 1.0, 1.0], vec![0.0; 4]);
+    TriangleMesh::new(nodes, (vec![0, 1], vec![1, 3], vec![2, 2])).unwrap()
+}
+
+fn strange() -> TriangleMesh {
+    let (x, y) = (
+        vec![0.0, 1.0, 0.0, f64::NAN, 0.5, 9.0],
+        vec![0.0, 0.0, 1.0, 1.0, 1e-7, 0.0],
+    );
+    TriangleMesh::new((x, y, vec![0.0; 6]), (vec![0, 1, 0], vec![1, 3, 1], vec![2, 2, 4])).unwrap()
+}
+
+/// A NumPy file of version 1 with a shape.
+pub(crate) fn npy(shape: &str, numbers: &[f64]) -> Vec<u8> {
+    let text = format!("{{'descr': '<f8', 'fortran_order': False, 'shape': {shape}, }}");
+    let text = format!("{text:<117}\n");
+    let mut file = b"\x93NUMPY\x01\x00\x76\x00".to_vec();
+    file.extend(text.bytes());
+    file.extend(numbers.iter().flat_map(|x| x.to_le_bytes()));
+    file
+}

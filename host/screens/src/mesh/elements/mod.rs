@@ -1,0 +1,2 @@
+//! Panels one by one.
+pub mod tri;

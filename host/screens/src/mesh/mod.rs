@@ -1,0 +1,16 @@
+//! Meshes of triangle panels: a tested view of six columns, an owned mesh, and the panel file.
+mod owned;
+mod panel_file;
+mod view;
+
+pub mod elements;
+
+pub use owned::TriangleMesh;
+pub use panel_file::{panel_file_counts, read_panel_file};
+pub use view::TriangleMeshView;
+
+/// The most nodes that a mesh may have.
+pub const MAX_NODES: usize = 4096;
+
+/// The most panels that a mesh may have.
+pub const MAX_PANELS: usize = 8192;

@@ -1,0 +1,118 @@
+//! A mesh that owns its columns.
+use super::panel_file::{encode, panel_file_counts, read_panel_file};
+use super::view::TriangleMeshView;
+use crate::Refusal;
+use crate::physics::boundary_element::{QuadratureKind, move_node};
+
+/// A tested mesh that owns its columns: what is read from a panel file, moved and written again.
+///
+/// ```
+/// use screens::{QuadratureKind, TriangleMesh, triangle_mesh_inductance_matrix};
+///
+/// let nodes = (vec![0.0, 1.0, 0.0, 1.0], vec![0.0, 0.0, 1.0, 1.0], vec![0.0; 4]);
+/// let mut mesh = TriangleMesh::new(nodes, (vec![0, 1], vec![1, 3], vec![2, 2]))?;
+/// let mut matrix = vec![0.0; 16];
+/// triangle_mesh_inductance_matrix(&mesh.view(), QuadratureKind::Dunavant3, &mut matrix)?;
+///
+/// // the cells of the rows and columns of node 3's ring are renewed
+/// let count = mesh.move_node(QuadratureKind::Dunavant3, &mut matrix, 3, [1.1, 1.0, 0.2])?;
+/// assert_eq!(count, 15);
+/// let mut fresh = vec![0.0; 16];
+/// triangle_mesh_inductance_matrix(&mesh.view(), QuadratureKind::Dunavant3, &mut fresh)?;
+/// assert_eq!(matrix, fresh);
+///
+/// assert_eq!(TriangleMesh::from_panel_file(&mesh.to_panel_file())?, mesh);
+/// # Ok::<(), screens::Refusal>(())
+/// ```
+#[derive(Clone, Debug, PartialEq)]
+pub struct TriangleMesh {
+    x: Vec<f64>,
+    y: Vec<f64>,
+    z: Vec<f64>,
+    t0: Vec<usize>,
+    t1: Vec<usize>,
+    t2: Vec<usize>,
+    poor: usize,
+}
+
+impl TriangleMesh {
+    /// Tests the columns and keeps them; refused as [`TriangleMeshView::new`].
+    pub fn new(
+        nodes: (Vec<f64>, Vec<f64>, Vec<f64>),
+        triangles: (Vec<usize>, Vec<usize>, Vec<usize>),
+    ) -> Result<Self, Refusal> {
+        let (x, y, z) = nodes;
+        let (t0, t1, t2) = triangles;
+        let mut mesh = Self {
+            x,
+            y,
+            z,
+            t0,
+            t1,
+            t2,
+            poor: 0,
+        };
+        mesh.test()?;
+        Ok(mesh)
+    }
+
+    /// Reads a panel file. Refused with 14, 11, 15, 3 or 4.
+    pub fn from_panel_file(file: &[u8]) -> Result<Self, Refusal> {
+        // A file too short for counts is refused whatever the columns.
+        let (nodes, panels) = panel_file_counts(file).unwrap_or((0, 0));
+        let numbers = || vec![0.0; nodes];
+        let indices = || vec![0; panels];
+        let mut mesh = Self {
+            x: numbers(),
+            y: numbers(),
+            z: numbers(),
+            t0: indices(),
+            t1: indices(),
+            t2: indices(),
+            poor: 0,
+        };
+        read_panel_file(
+            file,
+            (&mut mesh.x, &mut mesh.y, &mut mesh.z),
+            (&mut mesh.t0, &mut mesh.t1, &mut mesh.t2),
+        )?;
+        mesh.test()?;
+        Ok(mesh)
+    }
+
+    /// The panel file of the mesh, which [`TriangleMesh::from_panel_file`] reads back bit for bit.
+    pub fn to_panel_file(&self) -> Vec<u8> {
+        encode(&self.view())
+    }
+
+    /// The mesh as the calls take it.
+    pub fn view(&self) -> TriangleMeshView<'_> {
+        TriangleMeshView::tested((&self.x, &self.y, &self.z), (&self.t0, &self.t1, &self.t2), self.poor)
+    }
+
+    /// Moves a node and renews the matrix, as [`move_node`].
+    pub fn move_node(
+        &mut self,
+        quad_kind: QuadratureKind,
+        matrix: &mut [f64],
+        node: usize,
+        place: [f64; 3],
+    ) -> Result<usize, Refusal> {
+        let count = move_node(
+            (&mut self.x, &mut self.y, &mut self.z),
+            (&self.t0, &self.t1, &self.t2),
+            quad_kind,
+            matrix,
+            node,
+            place,
+        )?;
+        self.test()?;
+        Ok(count)
+    }
+
+    /// Tests the mesh and notes the count of poor panels.
+    fn test(&mut self) -> Result<(), Refusal> {
+        self.poor = TriangleMeshView::new((&self.x, &self.y, &self.z), (&self.t0, &self.t1, &self.t2))?.poor_panels();
+        Ok(())
+    }
+}

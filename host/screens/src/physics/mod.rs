@@ -1,0 +1,2 @@
+//! Physics of panels.
+pub mod boundary_element;
