@@ -18,6 +18,7 @@ use Rattle.boundary_element.specs.Identity as Identity
 use Rattle.coupling.specs.Distance as Distance
 use Rattle.coupling.specs.Coupling as Coupling
 use Rattle.coupling.specs.Bisection as Bisection
+use Rattle.coupling.specs.Block as Block
 use Rattle.coupling.specs.Calls as Calls
 use Rattle.coupling.specs.declared.calls.Answer.{Answer}
 use Rattle.coupling.specs.declared.calls.BlockAnswer.{BlockAnswer}
@@ -26,7 +27,9 @@ use Rattle.linkage.specs.Answer.{valueAfter}
 use Rattle.linkage.specs.Energy as Energy
 use Rattle.linkage.specs.Flux as Flux
 use Rattle.linkage.specs.Row as Row
-use Rattle.oracle_replay.specs.Words.{lengthAt, sizeAt, part, samePlace, vectorAt, triangleAt, ruleOf, sameWord, sameNumber, sameVector, sameTriangle, sameNine, sameValue, sameFlag}
+use Rattle.oracle_replay.specs.Filled.{meshesAgree}
+use Rattle.oracle_replay.specs.Shown.{shownAgree}
+use Rattle.oracle_replay.specs.Words.{lengthAt, sizeAt, part, samePlace, vectorAt, triangleAt, nineAt, ruleOf, sameWord, sameNumber, sameVector, sameTriangle, sameNine, sameValue, sameFlag}
 
 abbrev pub fma : List Float → List ℕ → Bool
 fma f w = sameNumber (Ieee754.fma (at f 0) (at f 1) (at f 2)) w 3
@@ -126,6 +129,15 @@ longestEdge f w = sameNumber (Distance.triangleMaxEdgeSquared (triangleAt f 0)) 
 
 abbrev pub isFar : List Float → List ℕ → Bool
 isFar f w = sameFlag (Coupling.isFar (triangleAt f 0) (triangleAt f 9)) w 18
+
+abbrev pub pointDistance : List Float → List ℕ → Bool
+pointDistance f w = sameNumber (Distance.pointTriangleDistanceSquared (vectorAt f 0) (triangleAt f 3)) w 12
+
+abbrev pub segmentDistance : List Float → List ℕ → Bool
+segmentDistance f w = sameNumber (Distance.segmentDistanceSquared (vectorAt f 0) (vectorAt f 3) (vectorAt f 6) (vectorAt f 9)) w 12
+
+abbrev pub blockEnergy : List Float → List ℕ → Bool
+blockEnergy f w = sameNumber (Block.inductanceFromPotentialVectors (nineAt f 0) (vectorAt f 9) (vectorAt f 12)) w 15
 
 abbrev pub geometricCoupling : List Float → List ℕ → Bool
 geometricCoupling f w =
@@ -241,7 +253,10 @@ pairsAgree kind f w =
     (cond (eqb kind 54) (boxDistance f w)
     (cond (eqb kind 55) (panelDistance f w)
     (cond (eqb kind 56) (longestEdge f w)
-    (cond (eqb kind 57) (isFar f w) false))))
+    (cond (eqb kind 57) (isFar f w)
+    (cond (eqb kind 37) (pointDistance f w)
+    (cond (eqb kind 38) (segmentDistance f w)
+    (cond (eqb kind 40) (blockEnergy f w) false)))))))
 
 unfoldable pub callsAgree : ℕ → List Float → List ℕ → Bool
 callsAgree kind f w =
@@ -259,10 +274,10 @@ unfoldable pub rowsAgree : ℕ → List Float → List ℕ → Bool
 rowsAgree kind f w = cond (eqb kind 31) (rowMatrix f w) (cond (eqb kind 32) (rowMap f w) false)
 
 -- a kind that is none of these agrees with nothing
-unfoldable pub agrees : ℕ → List Float → List ℕ → Bool
-agrees kind f w =
-    numbersAgree kind f w || (vectorsAgree kind f w || (panelsAgree kind f w || (pairsAgree kind f w || (callsAgree kind f w || (mapsAgree kind f w || (rowsAgree kind f w))))))
+unfoldable pub agrees : ℕ → List Float → List ℕ → List ℕ → Bool
+agrees kind f u w =
+    numbersAgree kind f w || (vectorsAgree kind f w || (panelsAgree kind f w || (pairsAgree kind f w || (callsAgree kind f w || (mapsAgree kind f w || (rowsAgree kind f w || (meshesAgree kind f u w || shownAgree kind f w)))))))
 
 -- ---- left out: kinds that are not replayed
 unfoldable pub leftOut : ℕ → Bool
-leftOut kind = eqb kind 20 || (eqb kind 21 || (eqb kind 22 || (eqb kind 25 || (eqb kind 28 || (eqb kind 30 || (eqb kind 33 || (eqb kind 34 || (eqb kind 35 || (eqb kind 37 || (eqb kind 38 || (eqb kind 40)))))))))))
+leftOut kind = eqb kind 30 || (eqb kind 33 || eqb kind 34)

@@ -1,2 +1,5 @@
 pub mod Words
+pub mod Buffers
+pub mod Filled
+pub mod Shown
 pub mod Kinds

@@ -15,6 +15,9 @@ vectorAt f k = at f k ∷ at f (k + 1) ∷ at f (k + 2) ∷ []
 unfoldable pub triangleAt : List Float → ℕ → List (List Float)
 triangleAt f k = vectorAt f k ∷ vectorAt f (k + 3) ∷ vectorAt f (k + 6) ∷ []
 
+unfoldable pub nineAt : List Float → ℕ → List Float
+nineAt f k = at f k ∷ at f (k + 1) ∷ at f (k + 2) ∷ at f (k + 3) ∷ at f (k + 4) ∷ at f (k + 5) ∷ at f (k + 6) ∷ at f (k + 7) ∷ at f (k + 8) ∷ []
+
 -- ---- results
 unfoldable pub sameWord : ℕ → List ℕ → ℕ → Bool
 sameWord n w k = eqb n (getD w k 0)
@@ -54,12 +57,24 @@ unfoldable pub lengthAt : List ℕ → ℕ → ℕ
 lengthAt w k = cond (ltb 64 (getD w k 0)) 64 (getD w k 0)
 
 -- the numbers from place a up to place e
-abbrev pub part : List Float → ℕ → ℕ → List Float
+abbrev pub part : {A : Type 0} → List A → ℕ → ℕ → List A
 part f a e = take (e - a) (drop a f)
+
+-- a stored length, cut at the most that is replayed
+unfoldable pub cutAt : List ℕ → ℕ → ℕ → ℕ
+cutAt w k most = cond (ltb most (getD w k 0)) most (getD w k 0)
+
+-- the place behind a mesh's column that begins with its length at place k
+unfoldable pub columnEnd : List ℕ → ℕ → ℕ
+columnEnd w k = k + 1 + cutAt w k 20
 
 -- the same, cut at 512
 unfoldable pub sizeAt : List ℕ → ℕ → ℕ
 sizeAt w k = cond (ltb 512 (getD w k 0)) 512 (getD w k 0)
+
+-- a refusal and a count
+unfoldable pub sameCount : ℕ → ℕ → List ℕ → ℕ → Bool
+sameCount r n w k = sameWord r w k && sameWord n w (k + 1)
 
 -- a refusal, where a row begins and how long it is
 unfoldable pub samePlace : ℕ → ℕ → ℕ → List ℕ → ℕ → Bool

@@ -1,14 +1,18 @@
 // Replays a stored sample of the original's answers (oracle/FORMAT.md): each case is worked out by ours and every number is
 // compared, in bits. Prints for each kind how many cases there are and how many differ; the last line is the sum.
+mod buffers;
 mod calls;
 mod case;
+mod fluxes;
 mod kinds;
 mod maps;
+mod meshes;
 mod numbers;
 mod pairs;
 mod panels;
 mod print;
 mod rows;
+mod shown;
 mod vectors;
 mod words;
 
@@ -35,6 +39,7 @@ fn main() {
         }
         let mut w = [0u64; 512];
         let mut f = [0.0f64; 512];
+        let mut u = [0usize; 512];
         let mut j = 0;
         while j < size {
             let mut part = [0u8; 8];
@@ -42,6 +47,7 @@ fn main() {
             let word = case::word(&part);
             w[j] = word;
             f[j] = panel_file::from_bits(word);
+            u[j] = word as usize;
             j += 1;
         }
         let k = kind as usize;
@@ -49,7 +55,7 @@ fn main() {
             others = std::num::wrapping_add_u64(others, 1);
         } else {
             cases[k] = std::num::wrapping_add_u64(cases[k], 1);
-            if !kinds::agrees(kind, &f, &w) {
+            if !kinds::agrees(kind, &f, &u, &w) {
                 differ[k] = std::num::wrapping_add_u64(differ[k], 1);
             }
         }

@@ -1,9 +1,11 @@
-// Pairs of panels.
+// Pairs of panels, of a point and a panel, and of segments.
 ghost use mathlib.Core.Path.{_≡_};
 ghost use Rattle.oracle_replay.specs.Kinds as Spec;
+use crate::words::nine;
 use crate::words::same_flag;
 use crate::words::same_number;
 use crate::words::triangle;
+use crate::words::vector;
 
 pub fn identical(f: &[f64; 512], w: &[u64; 512]) -> bool
     ensures { λ r. ⌜ r ≡ Spec.identical (now (f .entry)) (now (w .entry)) ⌝ }
@@ -55,6 +57,45 @@ pub fn is_far(f: &[f64; 512], w: &[u64; 512]) -> bool
     )
 }
 
+pub fn point_distance(f: &[f64; 512], w: &[u64; 512]) -> bool
+    ensures { λ r. ⌜ r ≡ Spec.pointDistance (now (f .entry)) (now (w .entry)) ⌝ }
+{
+    same_number(
+        coupling::distance::point_triangle_distance_squared(vector(f, 0), triangle(f, 3)),
+        w,
+        12,
+    )
+}
+
+pub fn segment_distance(f: &[f64; 512], w: &[u64; 512]) -> bool
+    ensures { λ r. ⌜ r ≡ Spec.segmentDistance (now (f .entry)) (now (w .entry)) ⌝ }
+{
+    same_number(
+        coupling::distance::segment_distance_squared(
+            vector(f, 0),
+            vector(f, 3),
+            vector(f, 6),
+            vector(f, 9),
+        ),
+        w,
+        12,
+    )
+}
+
+pub fn block_energy(f: &[f64; 512], w: &[u64; 512]) -> bool
+    ensures { λ r. ⌜ r ≡ Spec.blockEnergy (now (f .entry)) (now (w .entry)) ⌝ }
+{
+    same_number(
+        coupling::block::triangle_inductance_from_potential_vectors(
+            nine(f, 0),
+            vector(f, 9),
+            vector(f, 12),
+        ),
+        w,
+        15,
+    )
+}
+
 // By the kind's number.
 pub fn agree(kind: u64, f: &[f64; 512], w: &[u64; 512]) -> bool
     ensures { λ r. ⌜ r ≡ Spec.pairsAgree kind (now (f .entry)) (now (w .entry)) ⌝ }
@@ -73,6 +114,15 @@ pub fn agree(kind: u64, f: &[f64; 512], w: &[u64; 512]) -> bool
     }
     if kind == 57 {
         return is_far(f, w);
+    }
+    if kind == 37 {
+        return point_distance(f, w);
+    }
+    if kind == 38 {
+        return segment_distance(f, w);
+    }
+    if kind == 40 {
+        return block_energy(f, w);
     }
     false
 }

@@ -20,6 +20,23 @@ pub fn triangle(f: &[f64; 512], k: usize) -> [[f64; 3]; 3]
     [a, b, c]
 }
 
+pub fn nine(f: &[f64; 512], k: usize) -> [f64; 9]
+    requires { ⌜ k + 9 ≤ 512 ⌝ }
+    ensures { λ r. ⌜ r ≡ Spec.nineAt (now (f .entry)) k ⌝ }
+{
+    [
+        f[k],
+        f[k + 1],
+        f[k + 2],
+        f[k + 3],
+        f[k + 4],
+        f[k + 5],
+        f[k + 6],
+        f[k + 7],
+        f[k + 8],
+    ]
+}
+
 pub fn same_word(n: u64, w: &[u64; 512], k: usize) -> bool
     requires { ⌜ k < 512 ⌝ }
     ensures { λ r. ⌜ r ≡ Spec.sameWord n (now (w .entry)) k ⌝ }
@@ -111,6 +128,36 @@ pub fn size_at(w: &[u64; 512], k: usize) -> usize
         return 512;
     }
     n as usize
+}
+
+// The same, cut at a given length.
+pub fn cut_at(w: &[u64; 512], k: usize, most: usize) -> usize
+    requires { ⌜ k < 512 ⌝ }
+    ensures { λ r. ⌜ (r ≡ Spec.cutAt (now (w .entry)) k most) × (r ≤ most) ⌝ }
+{
+    let n = w[k];
+    if n > most as u64 {
+        return most;
+    }
+    n as usize
+}
+
+// The place behind a mesh's column.
+pub fn column_end(w: &[u64; 512], k: usize) -> usize
+    requires { ⌜ k < 400 ⌝ }
+    ensures { λ r. ⌜ (r ≡ Spec.columnEnd (now (w .entry)) k) × (k < r) × (r ≤ k + 21) ⌝ }
+{
+    k + 1 + cut_at(w, k, 20)
+}
+
+// A refusal and a count.
+pub fn same_count(refusal: u32, count: usize, w: &[u64; 512], k: usize) -> bool
+    requires { ⌜ k + 2 ≤ 512 ⌝ }
+    ensures { λ r. ⌜ r ≡ Spec.sameCount refusal count (now (w .entry)) k ⌝ }
+{
+    let a = same_word(refusal as u64, w, k);
+    let b = same_word(count as u64, w, k + 1);
+    (a) & (b)
 }
 
 // A refusal, where a row begins and how long it is.

@@ -13,10 +13,10 @@ abbrev μ-loop : tie.MeasureT-loop
 μ-loop cases₀ differ₀ left₀ others₀ t18 t19 t20 cases differ left others = left
 
 abbrev Inv-loop2 : tie.InvT-loop2
-Inv-loop2 cases differ left others kind size w₀ f₀ j₀ t18 t19 t20 w f j = (length cases ≡ 64) × (length differ ≡ 64) × (length w ≡ 512) × (length f ≡ 512) × (size ≤ 512) × (kind ≤ 63)
+Inv-loop2 cases differ left others kind size w₀ f₀ u₀ j₀ t18 t19 t20 w f u j = (length cases ≡ 64) × (length differ ≡ 64) × (length w ≡ 512) × (length f ≡ 512) × (length u ≡ 512) × (size ≤ 512) × (kind ≤ 63)
 
 abbrev μ-loop2 : tie.MeasureT-loop2
-μ-loop2 cases differ left others kind size w₀ f₀ j₀ t18 t19 t20 w f j = size - j
+μ-loop2 cases differ left others kind size w₀ f₀ u₀ j₀ t18 t19 t20 w f u j = size - j
 
 abbrev Inv-loop3 : tie.InvT-loop3
 Inv-loop3 cases differ left others sum₀ k₀ t18 t19 t20 sum k = (length cases ≡ 64) × (length differ ≡ 64)
@@ -84,6 +84,12 @@ mul-f c = search needs
 array-write-f : tie.Need-array-write-f Inv-loop2 μ-loop2 Inv-loop μ-loop Inv-loop3 μ-loop3
 array-write-f c = search needs
 
+mul-u : tie.Need-mul-u Inv-loop2 μ-loop2 Inv-loop μ-loop Inv-loop3 μ-loop3
+mul-u c = search needs
+
+array-write-u : tie.Need-array-write-u Inv-loop2 μ-loop2 Inv-loop μ-loop Inv-loop3 μ-loop3
+array-write-u c = search needs
+
 add-j : tie.Need-add-j Inv-loop2 μ-loop2 Inv-loop μ-loop Inv-loop3 μ-loop3
 add-j c = search needs
 
@@ -93,7 +99,7 @@ loop2-less c = search needs
 loop2-again : tie.Need-loop2-again Inv-loop2 μ-loop2 Inv-loop μ-loop Inv-loop3 μ-loop3
 loop2-again c =
     let i = c .before .before .before .before .before .before .before .loop2 .inv in
-    (i .0, i .1, simp length-set (i .2), simp length-set (i .3), i .4, i .5)
+    (i .0, i .1, simp length-set (i .2), simp length-set (i .3), simp length-set (i .4), i .5, i .6)
 
 left-out-requires : tie.Need-left-out-requires Inv-loop2 μ-loop2 Inv-loop μ-loop Inv-loop3 μ-loop3
 left-out-requires c κs = search needs
@@ -213,4 +219,4 @@ returns : tie.Need-returns Inv-loop2 μ-loop2 Inv-loop μ-loop Inv-loop3 μ-loop
 returns c = search needs
 
 pub main-spec : {M : Type 1} → statement M
-main-spec = tie.close (tie.spec Inv-loop2 μ-loop2 Inv-loop μ-loop Inv-loop3 μ-loop3 slice-aggregate-read-full read-full-requires loop-holds sub-left slice-aggregate-read-full-2 read-full-requires-2 slice-aggregate-kind kind-requires slice-aggregate-size size-requires loop2-holds slice-aggregate-read-full-3 read-full-requires-3 slice-aggregate-word word-requires mul-w array-write-w from-bits-requires mul-f array-write-f add-j loop2-less loop2-again left-out-requires wrapping-add-u64-requires loop-less loop-again mul-wrapping-add-u64 array-read-wrapping-add-u64 wrapping-add-u64-requires-2 mul-cases array-write-cases agrees-requires mul-wrapping-add-u64-2 array-read-wrapping-add-u64-2 wrapping-add-u64-requires-3 mul-differ array-write-differ loop-less-2 loop-again-2 loop-less-3 loop-again-3 loop3-holds mul-if6 array-read-if6 slice-aggregate-line mul-line array-read-line mul-line-2 array-read-line-2 line-requires wrapping-add-u64-requires-4 add-k loop3-less loop3-again print-decimal-requires slice-aggregate-write-all write-all-requires print-decimal-requires-2 slice-aggregate-write-all-2 write-all-requires-2 returns)
+main-spec = tie.close (tie.spec Inv-loop2 μ-loop2 Inv-loop μ-loop Inv-loop3 μ-loop3 slice-aggregate-read-full read-full-requires loop-holds sub-left slice-aggregate-read-full-2 read-full-requires-2 slice-aggregate-kind kind-requires slice-aggregate-size size-requires loop2-holds slice-aggregate-read-full-3 read-full-requires-3 slice-aggregate-word word-requires mul-w array-write-w from-bits-requires mul-f array-write-f mul-u array-write-u add-j loop2-less loop2-again left-out-requires wrapping-add-u64-requires loop-less loop-again mul-wrapping-add-u64 array-read-wrapping-add-u64 wrapping-add-u64-requires-2 mul-cases array-write-cases agrees-requires mul-wrapping-add-u64-2 array-read-wrapping-add-u64-2 wrapping-add-u64-requires-3 mul-differ array-write-differ loop-less-2 loop-again-2 loop-less-3 loop-again-3 loop3-holds mul-if6 array-read-if6 slice-aggregate-line mul-line array-read-line mul-line-2 array-read-line-2 line-requires wrapping-add-u64-requires-4 add-k loop3-less loop3-again print-decimal-requires slice-aggregate-write-all write-all-requires print-decimal-requires-2 slice-aggregate-write-all-2 write-all-requires-2 returns)

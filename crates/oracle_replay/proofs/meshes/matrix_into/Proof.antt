@@ -1,0 +1,12 @@
+-- The call's number and what it leaves in its buffers are the ones due.
+use borrow.Author.Needs.{needs}
+use Rattle.oracle_replay.proofs.meshes.matrix_into.Statement.{statement}
+use Rattle.oracle_replay.proofs.meshes.matrix_into.Tie as tie
+
+returns : tie.Need-returns
+returns c =
+    let e = c .before .before .before .before .before .triangle-mesh-inductance-matrix .ensures in
+    rw (← e .refusal, ← e .cells, ← c .before .before .same-word .ensures, ← c .held .ensures)
+
+pub matrix-into-spec : {M : Type 1} → statement M
+matrix-into-spec = tie.close (tie.spec (search needs) (search needs) (search needs) (search needs) (search needs) (search needs) returns)
