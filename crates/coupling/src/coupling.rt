@@ -3,7 +3,11 @@ use crate::bisection::longest_edge_bisection;
 use crate::distance::triangle_aabb_distance_squared;
 use crate::distance::triangle_distance_squared;
 use crate::distance::triangle_max_edge_squared;
+use panel_points::nine;
+use panel_points::points_of;
+use panel_points::weighted;
 use potential::UniformTriangle;
+use potential::seven::scalar_potentials;
 use tri::mapping::area;
 use tri::mapping::map_point;
 use tri::quadrature::QuadratureKind;
@@ -11,7 +15,6 @@ use tri::quadrature::quadrature_count;
 use tri::quadrature::quadrature_row;
 ghost use mathlib.Core.Path.{_≡_};
 ghost use Rattle.coupling.specs.Coupling as Spec;
-ghost use Rattle.potential.specs.Potential.{scalarPotential};
 
 const COUPLING_NEAR_SUBDIVISION_DEPTH: usize = 2;
 
@@ -87,14 +90,7 @@ fn triangle_geometric_coupling_regular_symmetric(
 }
 
 // ---- the near rule
-// A row's part of the exact potential's integral.
-fn exact_row(source: UniformTriangle, target: [[f64; 3]; 3], area: f64, q: [f64; 3]) -> f64
-    ensures { λ r. ⌜ r ≡ Spec.integralRow target area (scalarPotential source) q ⌝ }
-{
-    let obs = map_point(target, q[1], q[2]);
-    q[0] * area * source.scalar_potential(obs)
-}
-
+// The potential at all points of the rule at once.
 fn triangle_geometric_coupling_exact_directed(
     source: UniformTriangle,
     target: [[f64; 3]; 3],
@@ -102,13 +98,16 @@ fn triangle_geometric_coupling_exact_directed(
 ) -> f64
     ensures { λ r. ⌜ r ≡ Spec.triangleGeometricCouplingExactDirected source target kind ⌝ }
 {
-    let target_area = area(target);
-    let count = quadrature_count(kind);
-    let mut out = 0.0;
-    for k in 0..count {
-        out += exact_row(source, target, target_area, quadrature_row(kind, k));
-    }
-    out
+    let points = points_of(kind, nine(target), area(target));
+    let x = points.x;
+    let y = points.y;
+    let z = points.z;
+    let w = points.w;
+    weighted(
+        quadrature_count(kind),
+        w,
+        scalar_potentials(source, x, y, z),
+    )
 }
 
 // The target halved depth times, each leaf by the rule of seven points.

@@ -1,6 +1,6 @@
 -- The float of a whole number that may be below zero, as the difference of the floats of two that are not: both are exact, so the difference rounds the exact one.
 use mathlib.Core.Path.{_≡_, refl, sym, ap, _∙_}
-use mathlib.Core.Bool.{Bool, true, false, true≢false}
+use mathlib.Core.Bool.{Bool, true, false, cond, true≢false}
 use Prim.Native.Nat.{ℕ, suc, _*_, _^_, _-_, _≤_, _<_}
 use native.Mathlib.Nat.{mul-assoc, mul-comm, mul-one, mul-pos, mul-lt-mul-of-pos-right, mul-le-mul-right, mul-sub, zero-lt-suc}
 use native.Mathlib.Omega.{arith}
@@ -64,3 +64,17 @@ the-bias = refl
 
 pub exponent-steps : (e : ℕ) → e ≤ 2098 → sub binary64 (ofInt binary64 (pos e)) (ofBits binary64 0x4090_c800_0000_0000) ≡ ofInt binary64 (subℕ e 1074)
 exponent-steps e h = rw (the-bias) (whole-difference binary64 e 1074 (omega arith) (omega arith))
+
+-- an exponent's field less 1023, or less 1022 where the significand is halved
+the-offset : (h : Bool) → cond h (ofBits binary64 0x408f_f000_0000_0000) (ofBits binary64 0x408f_f800_0000_0000) ≡ ofInt binary64 (pos (cond h 1022 1023))
+unfolding ofBits ofInt
+the-offset true = refl
+the-offset false = refl
+
+at-most-1023 : (h : Bool) → cond h 1022 1023 ≤ 2 ^ prec binary64
+at-most-1023 true = lib.Dec.lit≤ tt
+at-most-1023 false = lib.Dec.lit≤ tt
+
+pub field-steps : (f : ℕ) (h : Bool) → f ≤ 4095
+    → sub binary64 (ofInt binary64 (pos f)) (cond h (ofBits binary64 0x408f_f000_0000_0000) (ofBits binary64 0x408f_f800_0000_0000)) ≡ ofInt binary64 (subℕ f (cond h 1022 1023))
+field-steps f h l = ap (sub binary64 (ofInt binary64 (pos f))) (the-offset h) ∙ whole-difference binary64 f (cond h 1022 1023) (omega arith) (at-most-1023 h)

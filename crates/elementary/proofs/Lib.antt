@@ -4,3 +4,7 @@ pub mod Exponent
 pub mod Parts
 pub mod Finite
 pub mod Decomposed
+pub mod Each
+pub mod Normal
+pub mod Bounded
+pub mod Angle

@@ -87,7 +87,7 @@ mantissa-bits n k r lo hi e =
     ∙ ap (λ (x : ℕ). ofBits binary64 x) (pack binary64 y r 1022 v lo hi ∙ mantissa-pattern r hi)
 
 -- ---- the exponent
-same-difference : (a b c d : ℕ) → a + d ≡ c + b → subℕ a b ≡ subℕ c d
+pub same-difference : (a b c d : ℕ) → a + d ≡ c + b → subℕ a b ≡ subℕ c d
 same-difference a b c d e = go (ltb a b) refl
   where
     go : (t : Bool) → ltb a b ≡ t → subℕ a b ≡ subℕ c d
@@ -108,7 +108,7 @@ no-difference a =
     let k : a ≡ a - 0 = omega arith in
     rw (le-ltb a 0 h) (ap pos k)
 
-next : (a b : ℕ) → subℕ a b +ℤ pos 1 ≡ subℕ (a + 1) b
+pub next : (a b : ℕ) → subℕ a b +ℤ pos 1 ≡ subℕ (a + 1) b
 next a b = go (ltb a b) refl
   where
     go : (t : Bool) → ltb a b ≡ t → subℕ a b +ℤ pos 1 ≡ subℕ (a + 1) b

@@ -1,3 +1,4 @@
 -- The crate's definitions.
 pub mod Elementary
+pub mod Lanes
 pub mod Examples

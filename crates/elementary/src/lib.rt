@@ -6,6 +6,8 @@ ghost use lib.IntN.{subℕ};
 ghost use lib.Ieee.{binary64, ofInt, ofBits};
 ghost use Rattle.elementary.specs.Elementary as Spec;
 
+pub mod lanes;
+
 const LN_2: f64 = 0.6931471805599453;
 
 const SQRT_2: f64 = 1.4142135623730951;

@@ -8,7 +8,7 @@ pub mod Tests
 pub mod Wide
 pub mod Error
 pub mod Residual
-pub mod Square
+pub mod Candidate
 pub mod Final
 pub mod Finishing
 pub mod Jam

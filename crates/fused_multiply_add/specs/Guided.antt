@@ -1,6 +1,7 @@
--- What the faster forms test and compute: the fields of a pattern, the exact sum ±p ± z, its significand, and when each form answers. Definitions only.
+-- What the faster forms test and compute: the fields of a pattern, the exact sum ±p ± z, its significand, its rest over t, and when each
+-- form answers. Definitions only.
 use mathlib.Core.Path.{_≡_}
-use mathlib.Core.Bool.{Bool, true, false, _&&_}
+use mathlib.Core.Bool.{Bool, true, false, not, cond, _&&_}
 use lib.Dec.{leb, ltb}
 use lib.Ieee.{Float, binary64, toBits, sum, unlike, eq, ne}
 use Rattle.binary64.specs.Binary64.{plusZero}
@@ -44,6 +45,20 @@ leads x s = leb (2 ^ 116) (x * 2 ^ s) && ltb (x * 2 ^ s) (2 ^ 117)
 unfoldable pub significand : ℕ → ℕ → ℕ
 significand x s = closest (x * 2 ^ s) (2 ^ 64)
 
+-- ---- the rest: ±p ± z less t, minus where cp and cz
+
+-- what is added, and what is taken away
+abbrev pub added : Bool → ℕ → Bool → ℕ → ℕ
+added cp p cz z = cond cp 0 p + cond cz 0 z
+
+abbrev pub taken : Bool → ℕ → Bool → ℕ → ℕ → ℕ
+taken cp p cz z t = t + (cond cp p 0 + cond cz z 0)
+
+-- it is below 2 ^ 63 in size
+pub record Fits (cp : Bool) (p : ℕ) (cz : Bool) (z t : ℕ) : Type 0 where
+  pub lower : taken cp p cz z t < added cp p cz z + 2 ^ 63
+  pub upper : added cp p cz z < taken cp p cz z t + 2 ^ 63
+
 -- ---- when a form answers
 
 -- a field far from those of the smallest and the largest values
@@ -58,9 +73,9 @@ usable ex ey k s = (central ex && central ey) && (ltb k 64 && (leb 1 s && ltb s 
 unfoldable pub loneProduct : Float → Float → Bool
 loneProduct p z = eq z plusZero && ne p plusZero
 
--- x's field is central, z is k places above the square's last digit, and t's last digit m places
-abbrev pub reach : ℕ → ℕ → ℕ → Bool
-reach ex k m = central ex && (ltb k 64 && (leb 15 m && ltb m 62))
+-- both factors' fields are central, z is k places above the product's last digit, and t's last digit m places
+abbrev pub reach : ℕ → ℕ → ℕ → ℕ → Bool
+reach ex ey k m = (central ex && central ey) && (ltb k 64 && (leb 15 m && ltb m 63))
 
 -- both factors' fields are central, z is finite and its last digit 64 places or more above the product's
 abbrev pub farAbove : ℕ → ℕ → ℕ → Bool
@@ -89,7 +104,8 @@ pub record Found (bx by bz r : ℕ) : Type 0 where
       (sum binary64 (unlike (leb (2 ^ 63) bx) (leb (2 ^ 63) by)) (mag (bx % 2 ^ 63) * mag (by % 2 ^ 63)) (leb (2 ^ 63) bz)
       (mag (bz % 2 ^ 63) * 2 ^ 1074) (2 ^ (1074 + 1074)))
 
--- r is (f - 2 ^ 51) * 2 ^ (e - 1) of the smallest values
-pub record Rest (r : Float) (f e : ℕ) : Type 0 where
-  pub plus : 2 ^ 51 ≤ f → HasValue r false ((f - 2 ^ 51) * 2 ^ (e - 1)) (2 ^ 1074)
-  pub minus : f < 2 ^ 51 → HasValue r true ((2 ^ 51 - f) * 2 ^ (e - 1)) (2 ^ 1074)
+-- r is (f - 2 ^ 51) * 2 ^ (e - 1) of the smallest values, or that with the other sign where s; a zero has no minus sign
+pub record Rest (s : Bool) (r : Float) (f e : ℕ) : Type 0 where
+  pub plus : 2 ^ 51 < f → HasValue r s ((f - 2 ^ 51) * 2 ^ (e - 1)) (2 ^ 1074)
+  pub none : f ≡ 2 ^ 51 → HasValue r false 0 (2 ^ 1074)
+  pub minus : f < 2 ^ 51 → HasValue r (not s) ((2 ^ 51 - f) * 2 ^ (e - 1)) (2 ^ 1074)

@@ -582,14 +582,14 @@ fn guided_bits(bx: u64, by: u64, bz: u64, bt: u64) -> Attempt
 
 // ---- z far above the product
 
-// (f - 2 ^ 51) * 2 ^ (e - 1) of the smallest values.
-fn rest_float(f: u64, e: u64) -> f64
+// (f - 2 ^ 51) * 2 ^ (e - 1) of the smallest values, or that with the other sign where `negative`.
+fn rest_float(negative: bool, f: u64, e: u64) -> f64
     requires { ⌜ f < 2 ^ 52 ⌝ }
     requires { ⌜ (1 ≤ e) × (e < 2000) ⌝ }
-    ensures { λ r. ⌜ Guided.Rest r f e ⌝ }
+    ensures { λ r. ⌜ Guided.Rest negative r f e ⌝ }
 {
-    f64::from_bits(e * 0x10_0000_0000_0000 + f)
-        - f64::from_bits(e * 0x10_0000_0000_0000 + 0x8_0000_0000_0000)
+    let top = signed(negative, e * 0x10_0000_0000_0000);
+    f64::from_bits(top + f) - f64::from_bits(top + 0x8_0000_0000_0000)
 }
 
 // z is so far above x * y that the product's 55 lowest digits are at least 9 places below z's last digit.
@@ -606,18 +606,6 @@ fn jam_product(hi: u64, lo: u64) -> u64
     ensures { λ r. ⌜ (Jam (hi * 2 ^ 64 + lo) (2 ^ 55) r) × (r < 2 ^ 51) ⌝ }
 {
     sticky(hi * 512 + (lo >> 55), lo % 0x80_0000_0000_0000)
-}
-
-// f, or -f, above 2 ^ 51.
-fn offset(negative: bool, f: u64) -> u64
-    requires { ⌜ f < 2 ^ 51 ⌝ }
-    ensures { λ r. ⌜ r ≡ cond negative (2 ^ 51 - f) (2 ^ 51 + f) ⌝ }
-{
-    if negative {
-        0x8_0000_0000_0000 - f
-    } else {
-        0x8_0000_0000_0000 + f
-    }
 }
 
 // fma of numbers, without a guide. Where z is far above x * y it is the hardware's sum of z and the product
@@ -639,7 +627,7 @@ fn unguided(x: f64, y: f64, z: f64) -> f64
     let p = product(digits(bx), digits(by));
     let f = jam_product(p.hi, p.lo);
     let n = opposite(minus_sign(bx), minus_sign(by));
-    z + rest_float(offset(n, f), ex + ey - 1020)
+    z + rest_float(n, 0x8_0000_0000_0000 + f, ex + ey - 1020)
 }
 
 // z is a zero that changes nothing of the rounded product p. Where p is a zero too, the exact product's sign
@@ -650,20 +638,15 @@ fn lone_product(p: f64, z: f64) -> bool
     (z == 0.0) & (p != 0.0)
 }
 
-// fma for every input. The hardware's t = x * y + z says where the exact sum's leading digit should be, which
-// saves the normalising shifts of the integer form; most inputs need no other branch. A flat screen has many a
-// z of 0, so that is tested first.
-pub fn mul_add(x: f64, y: f64, z: f64) -> f64
+// fma of numbers with the hardware's t = x * y + z as the guide: it says where the exact sum's leading digit should
+// be, which saves the normalising shifts of the integer form.
+fn guided(x: f64, y: f64, z: f64, t: f64) -> f64
+    requires { ⌜ T (not (isNan x)) ⌝ }
+    requires { ⌜ T (not (isNan y)) ⌝ }
+    requires { ⌜ T (not (isNan z)) ⌝ }
+    requires { ⌜ T (not (isNan t)) ⌝ }
     ensures { λ r. ⌜ r ≡ fma x y z ⌝ }
 {
-    let p = x * y;
-    if lone_product(p, z) {
-        return p;
-    }
-    let t = p + z;
-    if t != t {
-        return fused_integer(x, y, z);
-    }
     let a = guided_bits(
         f64::to_bits(x),
         f64::to_bits(y),
@@ -676,16 +659,29 @@ pub fn mul_add(x: f64, y: f64, z: f64) -> f64
     f64::from_bits(a.sig)
 }
 
-// ---- a square: the hardware's sum and its exact rest
+// ---- the hardware's sum and its exact rest
 
-// The exact rest of u * u + w * 2 ^ k over c * 2 ^ m, and 2 ^ 63: one word, since the rest is small.
-fn rest_word(u: u64, w: u64, c: u64, k: u64, m: u64) -> u64
-    requires { ⌜ (k < 64) × (m < 64) ⌝ }
-    requires { ⌜ (c * 2 ^ m < u * u + w * 2 ^ k + 2 ^ 63) × (u * u + w * 2 ^ k < c * 2 ^ m + 2 ^ 63) ⌝ }
-    ensures { λ r. ⌜ r + c * 2 ^ m ≡ u * u + w * 2 ^ k + 2 ^ 63 ⌝ }
+// -a as a word where c, else a.
+fn negate(c: bool, a: u64) -> u64
+    ensures { λ r. ⌜ (r + cond c a 0) % 2 ^ 64 ≡ cond c 0 a ⌝ }
 {
-    let lo = std::num::wrapping_add_u64(binary64::low_product(u, u), w << k);
-    let d = std::num::wrapping_sub_u64(lo, c << m);
+    if c {
+        std::num::wrapping_sub_u64(0, a)
+    } else {
+        a
+    }
+}
+
+// The exact rest of ±u * v ± w * 2 ^ k over c * 2 ^ m, and 2 ^ 63: one word, since the rest is small.
+fn rest_word(cp: bool, u: u64, v: u64, cz: bool, w: u64, k: u64, c: u64, m: u64) -> u64
+    requires { ⌜ (k < 64) × (m < 64) ⌝ }
+    requires { ⌜ Guided.Fits cp (u * v) cz (w * 2 ^ k) (c * 2 ^ m) ⌝ }
+    ensures { λ r. ⌜ r + Guided.taken cp (u * v) cz (w * 2 ^ k) (c * 2 ^ m)
+        ≡ Guided.added cp (u * v) cz (w * 2 ^ k) + 2 ^ 63 ⌝ }
+{
+    let p = negate(cp, binary64::low_product(u, v));
+    let z = negate(cz, w << k);
+    let d = std::num::wrapping_sub_u64(std::num::wrapping_add_u64(p, z), c << m);
     std::num::wrapping_add_u64(d, 0x8000_0000_0000_0000)
 }
 
@@ -696,14 +692,47 @@ fn jam_word(g: u64) -> u64
     sticky(g >> 12, g % 4096)
 }
 
-fn reach(ex: u64, k: u64, m: u64) -> bool
-    ensures { λ r. ⌜ r ≡ Guided.reach ex k m ⌝ }
+// From m = 15 on the exact sum has t's sign and its last digit two places or more above the rest's cut; below 63
+// the rest fits one word.
+fn reach(ex: u64, ey: u64, k: u64, m: u64) -> bool
+    ensures { λ r. ⌜ r ≡ Guided.reach ex ey k m ⌝ }
 {
-    central(ex) & ((k < 64) & ((15 <= m) & (m < 62)))
+    (central(ex) & central(ey)) & ((k < 64) & ((15 <= m) & (m < 63)))
 }
 
-// fma x x z for every input. Where z is not negative and x * x not far below it, three roundings of the
-// hardware are enough: the third adds the exact rest of the first two.
+// fma for every input. Where neither factor is near the smallest or the largest values, z is not far from the
+// product and little is lost by cancelling, three roundings of the hardware are enough: the third adds the exact
+// rest of the first two. A flat screen has many a z of 0, so that is tested first.
+pub fn mul_add(x: f64, y: f64, z: f64) -> f64
+    ensures { λ r. ⌜ r ≡ fma x y z ⌝ }
+{
+    let p = x * y;
+    if lone_product(p, z) {
+        return p;
+    }
+    let t = p + z;
+    if t != t {
+        return fused_integer(x, y, z);
+    }
+    let bx = f64::to_bits(x);
+    let by = f64::to_bits(y);
+    let bz = f64::to_bits(z);
+    let bt = f64::to_bits(t);
+    let ex = field(bx);
+    let ey = field(by);
+    let k = std::num::wrapping_sub_u64(field(bz) + 1075, ex + ey);
+    let m = std::num::wrapping_sub_u64(field(bt) + 1075, ex + ey);
+    if !reach(ex, ey, k, m) {
+        return guided(x, y, z, t);
+    }
+    let nt = minus_sign(bt);
+    let cp = opposite(opposite(minus_sign(bx), minus_sign(by)), nt);
+    let cz = opposite(minus_sign(bz), nt);
+    let g = rest_word(cp, digits(bx), digits(by), cz, digits(bz), k, digits(bt), m);
+    t + rest_float(nt, jam_word(g), ex + ey - 1063)
+}
+
+// fma x x z for every input. Where z is not negative no sign is left to be looked at.
 pub fn square_add(x: f64, z: f64) -> f64
     ensures { λ r. ⌜ r ≡ fma x x z ⌝ }
 {
@@ -726,9 +755,10 @@ pub fn square_add(x: f64, z: f64) -> f64
     let et = field(bt);
     let k = std::num::wrapping_sub_u64(ez + 1075, ex + ex);
     let m = std::num::wrapping_sub_u64(et + 1075, ex + ex);
-    if !reach(ex, k, m) {
-        return mul_add(x, x, z);
+    if !reach(ex, ex, k, m) {
+        return guided(x, x, z, t);
     }
-    let g = rest_word(digits(bx), digits(bz), digits(bt), k, m);
-    t + rest_float(jam_word(g), ex + ex - 1063)
+    let u = digits(bx);
+    let g = rest_word(false, u, u, false, digits(bz), k, digits(bt), m);
+    t + rest_float(false, jam_word(g), ex + ex - 1063)
 }

@@ -17,7 +17,8 @@ use Rattle.pair.specs.declared.Panel.{Panel}
 use Rattle.tri.specs.declared.quadrature.QuadratureKind.{QuadratureKind}
 use Rattle.coupling.specs.Block.{mutualInductanceBlock}
 use Rattle.pair.specs.declared.Source.{Source}
-use Rattle.pair.specs.Pair.{coordinates, triangle, panelNumbers, sourceNumbers, Known, KnownSource, panel-known, source-known, mesh-corners}
+use Rattle.panel_points.specs.Points.{coordinates, triangle}
+use Rattle.pair.specs.Pair.{panelNumbers, sourceNumbers, Known, KnownSource, panel-known, source-known, mesh-corners}
 use Rattle.inductance.specs.Kept.{flat, Kept}
 
 -- ---- reading a run

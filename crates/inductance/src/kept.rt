@@ -7,7 +7,8 @@ ghost use Rattle.binary64.specs.Binary64.{at};
 ghost use Rattle.mesh.specs.Filling.{run};
 ghost use Rattle.mesh.specs.Mesh.{meshOf, triangleNodes};
 ghost use Rattle.mesh.specs.Conditions.{NodeColumnsAlike, PanelColumnsAlike, Below, NoneMissing};
-ghost use Rattle.pair.specs.Pair.{coordinates, panelNumbers};
+ghost use Rattle.panel_points.specs.Points.{coordinates};
+ghost use Rattle.pair.specs.Pair.{panelNumbers};
 ghost use Rattle.inductance.specs.Kept as Spec;
 use pair::Panel;
 
@@ -107,13 +108,13 @@ pub fn kept_panel(
     let base = j * 17;
     let area = kept[base];
     let edge = kept[base + 1];
-    let corners = pair::nine(mesh::triangle_nodes(x, y, z, t0, t1, t2, j));
+    let corners = panel_points::nine(mesh::triangle_nodes(x, y, z, t0, t1, t2, j));
     let lo = three_at(kept, base, 2);
     let hi = three_at(kept, base, 5);
     let a = three_at(kept, base, 8);
     let b = three_at(kept, base, 11);
     let c = three_at(kept, base, 14);
-    let densities = pair::nine([a, b, c]);
+    let densities = panel_points::nine([a, b, c]);
     Panel {
         corners,
         area,

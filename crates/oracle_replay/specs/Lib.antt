@@ -1,5 +1,3 @@
-pub mod Words
-pub mod Buffers
-pub mod Filled
-pub mod Shown
+pub mod Case
 pub mod Kinds
+pub mod Tally

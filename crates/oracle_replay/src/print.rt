@@ -1,17 +1,35 @@
-// A line of the table. What is written no contract can say; the answer is how many differ.
+// The table. What is written no contract can say; each answers how many differ.
 ghost use mathlib.Core.Path.{_≡_};
 ghost use Prim.Native.Nat.{_+_, _*_, _≤_, _<_};
 ghost use lib.ListN.{length};
+ghost use Rattle.oracle_replay.specs.Tally as Spec;
 
 // Each name has 18 bytes, and the one of kind k stands at its place.
-pub fn line(names: &[u8], k: usize, cases: u64, differ: u64) -> u64
+fn line(names: &[u8], k: usize, cases: u64, differ: u64) -> u64
     requires { ⌜ (k < 64) × (k * 18 + 18 ≤ length (now names)) ⌝ }
     ensures { λ r. ⌜ r ≡ differ ⌝ }
 {
-    io::write_all(1, &names[k * 18..k * 18 + 18]);
-    io::print_decimal(1, cases);
-    io::write_all(1, b" cases  ");
-    io::print_decimal(1, differ);
-    io::write_all(1, b" differ\n");
+    if cases > 0 {
+        io::write_all(1, &names[k * 18..k * 18 + 18]);
+        io::print_decimal(1, cases);
+        io::write_all(1, b" cases  ");
+        io::print_decimal(1, differ);
+        io::write_all(1, b" differ\n");
+    }
     differ
+}
+
+// The lines of the kinds that have cases.
+pub fn table(names: &[u8], cases: &[u64; 64], differ: &[u64; 64]) -> u64
+    requires { ⌜ 1152 ≤ length (now names) ⌝ }
+    ensures { λ r. ⌜ r ≡ Spec.total (now (differ .entry)) 64 ⌝ }
+{
+    let mut sum = 0;
+    let mut k = 0usize;
+    while k < 64 {
+        let d = line(names, k, cases[k], differ[k]);
+        sum = std::num::wrapping_add_u64(sum, d);
+        k += 1;
+    }
+    sum
 }

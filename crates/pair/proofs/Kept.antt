@@ -13,10 +13,10 @@ use Rattle.coupling.specs.Distance.{lowest, highest, gap, triangleDistanceSquar
 use Rattle.coupling.specs.Coupling.{isFar}
 use Rattle.pair.specs.declared.Panel.{Panel}
 use Rattle.pair.specs.declared.Source.{Source}
-use Rattle.pair.specs.Which.{gapBetween, boxDistanceSquared, farBeyond}
-use Rattle.pair.specs.Far.{pointsOf}
-use Rattle.pair.proofs.Nearness.{beyond-is}
-use Rattle.pair.specs.Pair.{coordinates, triangle, panelNumbers, sourceNumbers, Known, KnownSource}
+use Rattle.nearness.specs.Which.{gapBetween, boxDistanceSquared, farBeyond}
+use Rattle.panel_points.specs.Points.{coordinates, triangle, pointsOf}
+use Rattle.nearness.proofs.Nearness.{beyond-is}
+use Rattle.pair.specs.Pair.{panelNumbers, sourceNumbers, Known, KnownSource}
 
 -- the densities are three vectors of three numbers, so nothing is lost
 pub kept-densities : (p : Panel) → Known p → triangle (p .densities) ≡ triangleBasisCurrentDensities (triangle (p .corners))

@@ -1,3 +1,1 @@
-pub mod Which
-pub mod Far
 pub mod Pair

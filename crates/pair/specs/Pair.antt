@@ -13,20 +13,9 @@ use Rattle.potential.specs.Potential.{uniformTriangle}
 use Rattle.potential.specs.declared.UniformTriangle.{UniformTriangle}
 use Rattle.boundary_element.specs.CurrentDensity.{basisCurrentDensity, triangleBasisCurrentDensities}
 use Rattle.coupling.specs.Distance.{distanceSquared, lowest, highest, triangleMaxEdgeSquared}
-use Rattle.pair.specs.Far.{pointsOf}
+use Rattle.panel_points.specs.Points.{coordinates, triangle, pointsOf}
 use Rattle.pair.specs.declared.Panel.{Panel}
 use Rattle.pair.specs.declared.Source.{Source}
-
--- ---- three vectors as nine numbers
-unfoldable pub coordinates : Tri → List Float
-coordinates t =
-    at (corner t 0) 0 ∷ at (corner t 0) 1 ∷ at (corner t 0) 2
-    ∷ at (corner t 1) 0 ∷ at (corner t 1) 1 ∷ at (corner t 1) 2
-    ∷ at (corner t 2) 0 ∷ at (corner t 2) 1 ∷ at (corner t 2) 2
-    ∷ []
-
-unfoldable pub triangle : List Float → Tri
-triangle v = (at v 0 ∷ at v 1 ∷ at v 2 ∷ []) ∷ (at v 3 ∷ at v 4 ∷ at v 5 ∷ []) ∷ (at v 6 ∷ at v 7 ∷ at v 8 ∷ []) ∷ []
 
 -- ---- a panel's numbers
 unfoldable pub panelNumbers : Tri → Panel

@@ -1,20 +1,21 @@
 // The block of two panels, from numbers that are worked out once a panel.
-mod far;
-mod which;
-
-use crate::far::Points;
 use boundary_element::current_density::triangle_basis_current_densities;
 use coupling::block::block_from_coupling;
 use coupling::coupling::triangle_geometric_coupling_exact_fixed;
 use coupling::distance::highest;
 use coupling::distance::lowest;
 use coupling::distance::triangle_max_edge_squared;
+use panel_points::Points;
+use panel_points::nine;
+use panel_points::points_of;
+use panel_points::three;
 use potential::UniformTriangle;
 use tri::quadrature::QuadratureKind;
 use tri::quadrature::quadrature_count;
 ghost use mathlib.Core.Path.{_≡_};
 ghost use Rattle.coupling.specs.Block.{mutualInductanceBlock};
 ghost use Rattle.coupling.specs.Coupling.{geometricCoupling};
+ghost use Rattle.panel_points.specs.Points.{triangle};
 ghost use Rattle.pair.specs.Pair as Spec;
 
 const COUPLING_NEAR_SUBDIVISION_DEPTH: usize = 2;
@@ -34,29 +35,6 @@ pub struct Source {
     pub panel: Panel,
     pub points: Points,
     pub uniform: UniformTriangle,
-}
-
-// ---- three vectors as nine numbers, since a struct holds no array of arrays
-pub fn nine(t: [[f64; 3]; 3]) -> [f64; 9]
-    ensures { λ r. ⌜ r ≡ Spec.coordinates t ⌝ }
-{
-    [
-        t[0][0],
-        t[0][1],
-        t[0][2],
-        t[1][0],
-        t[1][1],
-        t[1][2],
-        t[2][0],
-        t[2][1],
-        t[2][2],
-    ]
-}
-
-fn three(v: [f64; 9]) -> [[f64; 3]; 3]
-    ensures { λ r. ⌜ r ≡ Spec.triangle v ⌝ }
-{
-    [[v[0], v[1], v[2]], [v[3], v[4], v[5]], [v[6], v[7], v[8]]]
 }
 
 // ---- worked out once a panel
@@ -83,7 +61,7 @@ pub fn source_numbers(kind: QuadratureKind, p: Panel) -> Source
     ensures { λ r. ⌜ r ≡ Spec.sourceNumbers kind p ⌝ }
 {
     let corners = p.corners;
-    let points = far::points_of(kind, corners, p.area);
+    let points = points_of(kind, corners, p.area);
     let uniform = UniformTriangle::new(three(corners));
     Source {
         panel: p,
@@ -97,7 +75,7 @@ pub fn source_numbers(kind: QuadratureKind, p: Panel) -> Source
 fn pair_coupling(kind: QuadratureKind, s: Source, t: Panel) -> f64
     requires { ⌜ Spec.KnownSource kind s ⌝ }
     requires { ⌜ Spec.Known t ⌝ }
-    ensures { λ r. ⌜ r ≡ geometricCoupling kind (Spec.triangle (s .panel .corners)) (Spec.triangle (t .corners)) ⌝ }
+    ensures { λ r. ⌜ r ≡ geometricCoupling kind (triangle (s .panel .corners)) (triangle (t .corners)) ⌝ }
 {
     let p = s.panel;
     let a = p.corners;
@@ -108,14 +86,10 @@ fn pair_coupling(kind: QuadratureKind, s: Source, t: Panel) -> f64
     let bhi = t.hi;
     let target = three(b);
     let limit = ieee754::max(p.edge, t.edge);
-    let apart = which::box_distance_squared(alo, ahi, blo, bhi);
-    if which::is_far(three(a), target, limit, apart) {
+    let apart = nearness::box_distance_squared(alo, ahi, blo, bhi);
+    if nearness::is_far(three(a), target, limit, apart) {
         let points = s.points;
-        return far::far_coupling(
-            quadrature_count(kind),
-            points,
-            far::points_of(kind, b, t.area),
-        );
+        return far_rule::far_coupling(quadrature_count(kind), points, points_of(kind, b, t.area));
     }
     let uniform = s.uniform;
     triangle_geometric_coupling_exact_fixed(uniform, target, COUPLING_NEAR_SUBDIVISION_DEPTH)
@@ -125,7 +99,7 @@ fn pair_coupling(kind: QuadratureKind, s: Source, t: Panel) -> f64
 pub fn pair_block(kind: QuadratureKind, s: Source, t: Panel) -> [f64; 9]
     requires { ⌜ Spec.KnownSource kind s ⌝ }
     requires { ⌜ Spec.Known t ⌝ }
-    ensures { λ r. ⌜ r ≡ mutualInductanceBlock kind (Spec.triangle (s .panel .corners)) (Spec.triangle (t .corners)) ⌝ }
+    ensures { λ r. ⌜ r ≡ mutualInductanceBlock kind (triangle (s .panel .corners)) (triangle (t .corners)) ⌝ }
 {
     let p = s.panel;
     let ksrc = p.densities;

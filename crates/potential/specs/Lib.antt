@@ -1,1 +1,3 @@
 pub mod Potential
+pub mod Seven
+pub mod Moderate

@@ -113,11 +113,15 @@ addEdge p edge obs d value =
     let h = dot3 (sub3 (node p edge) obs) (outward p edge) in
     cond (eq h plusZero && eq d plusZero) value (value ⊕ h ⊗ edgeIntegral p edge obs d)
 
+-- value less the solid angle's part
+unfoldable pub lessSolidAngle : UniformTriangle → Vec → Float → Float → Float
+lessSolidAngle p obs d value = value ⊖ d ⊗ signedSolidAngle p obs
+
 unfoldable pub scalarPotential : UniformTriangle → Vec → Float
 scalarPotential p obs =
     let d = distanceFromPlane p obs in
     let value = addEdge p 2 obs d (addEdge p 1 obs d (addEdge p 0 obs d plusZero)) in
-    value ⊖ d ⊗ signedSolidAngle p obs
+    lessSolidAngle p obs d value
 
 unfoldable pub subtractScaled : Vec → Vec → Float → Vec
 subtractScaled a v s = (at a 0 ⊖ at v 0 ⊗ s) ∷ (at a 1 ⊖ at v 1 ⊗ s) ∷ (at a 2 ⊖ at v 2 ⊗ s) ∷ []

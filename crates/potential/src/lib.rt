@@ -1,7 +1,10 @@
 // boundary_element/triangle_potential.rs: exact static potential of a uniformly loaded flat triangle.
+pub mod seven;
+
 ghost use mathlib.Core.Path.{_≡_};
 ghost use Prim.Native.Nat.{_<_};
 ghost use Rattle.potential.specs.Potential as Spec;
+ghost use Rattle.potential.specs.Moderate as Moderate;
 
 const SURFACE_EPSILON_FACTOR: f64 = 64.0;
 
@@ -84,6 +87,19 @@ fn solid_angle(r0: [f64; 3], r1: [f64; 3], r2: [f64; 3]) -> f64
         + math::dot3(r1, r2) * n0
         + math::dot3(r2, r0) * n1;
     2.0 * elementary::atan2(numerator, denominator)
+}
+
+// Whether x is below 1e100 in size, which a NaN is not.
+fn moderate(x: f64) -> bool
+    ensures { λ r. ⌜ r ≡ Moderate.moderate x ⌝ }
+{
+    (-1e100 < x) & (x < 1e100)
+}
+
+fn moderate3(v: [f64; 3]) -> bool
+    ensures { λ r. ⌜ r ≡ Moderate.moderate3 v ⌝ }
+{
+    moderate(v[0]) & moderate(v[1]) & moderate(v[2])
 }
 
 // a - v * s, each element rounded after the product and after the difference.
@@ -197,6 +213,20 @@ impl UniformTriangle {
         value + h * self.edge_integral_from(edge, r, h, d)
     }
 
+    // value less the solid angle's part. In the plane that part is a zero wherever the solid angle is finite, and needs no solid angle.
+    fn less_solid_angle(self, obs: [f64; 3], d: f64, value: f64) -> f64
+        ensures { λ r. ⌜ r ≡ Spec.lessSolidAngle self obs d value ⌝ }
+    {
+        let nodes = self.nodes;
+        let r0 = math::sub3(obs, vector(nodes, 0));
+        let r1 = math::sub3(obs, vector(nodes, 1));
+        let r2 = math::sub3(obs, vector(nodes, 2));
+        if (d == 0.0) & (value != 0.0) & moderate3(r0) & moderate3(r1) & moderate3(r2) {
+            return value;
+        }
+        value - d * solid_angle(r0, r1, r2)
+    }
+
     // Potential in metres.
     pub fn scalar_potential(self, obs: [f64; 3]) -> f64
         ensures { λ r. ⌜ r ≡ Spec.scalarPotential self obs ⌝ }
@@ -205,7 +235,7 @@ impl UniformTriangle {
         let first = self.add_edge(0, obs, d, 0.0);
         let second = self.add_edge(1, obs, d, first);
         let value = self.add_edge(2, obs, d, second);
-        value - d * self.signed_solid_angle(obs)
+        self.less_solid_angle(obs, d, value)
     }
 
     // One edge's part of the gradient, taken from gradient. Nothing is left out on an edge.

@@ -6,7 +6,8 @@ use borrow.Author.Tests.{ne-eqb, eq-eqb}
 use lib.Ieee.{Float}
 use Rattle.mesh.specs.Refusal.{after-refused}
 use Rattle.coupling.specs.declared.calls.BlockAnswer.{BlockAnswer}
-use Rattle.screens.specs.Screens.{Wrote, WroteBlock}
+use Rattle.lent_numbers.specs.Numbers.{Wrote}
+use Rattle.screens.specs.Screens.{WroteBlock}
 
 pub stopped : (a b : BlockAnswer) (out : List Float) → a ≡ b → (a .refusal ≡ 0 → ⊥) → WroteBlock b out (a .refusal) out
 stopped a b out e n =

@@ -4,7 +4,6 @@ pub mod arithmetic;
 pub mod assembly;
 pub mod files;
 pub mod meshes;
-pub mod output;
 pub mod pairs;
 pub mod panels;
 pub mod vectors;

@@ -7,9 +7,9 @@ ghost use Rattle.coupling.specs.Block as Block;
 ghost use Rattle.coupling.specs.Calls as Calls;
 ghost use Rattle.coupling.specs.Coupling as Coupling;
 ghost use Rattle.coupling.specs.Distance as Distance;
-ghost use Rattle.screens.specs.Screens.{vector, triangle, halvesOf, Wrote, Valued, WroteBlock};
-use crate::output;
-use crate::panels::nine;
+ghost use Rattle.lent_numbers.specs.Numbers.{halvesOf, Wrote};
+ghost use Rattle.screens.specs.Screens.{vector, triangle, Valued, WroteBlock};
+use lent_numbers::eighteen;
 
 #[no_mangle]
 pub extern "C" fn screens_triangle_distance_squared(
@@ -258,7 +258,7 @@ pub extern "C" fn screens_mutual_inductance_block(
         return answer.refusal;
     }
     let values = answer.values;
-    output::write9(values, out)
+    lent_numbers::write9(values, out)
 }
 
 // A block of nine numbers, row by row, between the values s of the source and t of the target.
@@ -289,34 +289,6 @@ pub extern "C" fn screens_inductance_from_potentials(
     )
 }
 
-// Two triangles as eighteen numbers.
-fn eighteen(h: [[[f64; 3]; 3]; 2]) -> [f64; 18]
-    ensures { λ r. ⌜ r ≡ halvesOf h ⌝ }
-{
-    let a = nine(h[0]);
-    let b = nine(h[1]);
-    [
-        a[0],
-        a[1],
-        a[2],
-        a[3],
-        a[4],
-        a[5],
-        a[6],
-        a[7],
-        a[8],
-        b[0],
-        b[1],
-        b[2],
-        b[3],
-        b[4],
-        b[5],
-        b[6],
-        b[7],
-        b[8],
-    ]
-}
-
 // The halves of a triangle at its longest edge.
 #[no_mangle]
 pub extern "C" fn screens_longest_edge_bisection(
@@ -333,7 +305,7 @@ pub extern "C" fn screens_longest_edge_bisection(
 ) -> u32
     ensures { λ r. ⌜ Wrote 18 (halvesOf (Bisection.longestEdgeBisection (triangle a0 a1 a2 b0 b1 b2 c0 c1 c2))) (now (out .entry)) r (now (out .exit)) ⌝ }
 {
-    output::write18(
+    lent_numbers::write18(
         eighteen(coupling::bisection::longest_edge_bisection([
             [a0, a1, a2],
             [b0, b1, b2],

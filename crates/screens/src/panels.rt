@@ -6,9 +6,11 @@ ghost use Rattle.potential.specs.Potential as Potential;
 ghost use Rattle.mesh.specs.Mesh as Mesh;
 ghost use Rattle.boundary_element.specs.CurrentDensity as Density;
 ghost use Rattle.boundary_element.specs.Identity as Identity;
-ghost use Rattle.screens.specs.Screens.{vector, triangle, recordNumbers, rowsOf, Wrote};
-use crate::output;
+ghost use Rattle.lent_numbers.specs.Numbers.{recordNumbers, rowsOf, Wrote};
+ghost use Rattle.screens.specs.Screens.{vector, triangle};
 use boundary_element::current_density;
+use lent_numbers::nine;
+use lent_numbers::record_numbers;
 use potential::UniformTriangle;
 
 // The area of the triangle with corners a, b and c.
@@ -45,7 +47,7 @@ pub extern "C" fn screens_normal(
 ) -> u32
     ensures { λ r. ⌜ Wrote 3 (Mapping.normal (triangle a0 a1 a2 b0 b1 b2 c0 c1 c2)) (now (out .entry)) r (now (out .exit)) ⌝ }
 {
-    output::write3(
+    lent_numbers::write3(
         tri::mapping::normal([[a0, a1, a2], [b0, b1, b2], [c0, c1, c2]]),
         out,
     )
@@ -69,7 +71,7 @@ pub extern "C" fn screens_map_point(
 ) -> u32
     ensures { λ r. ⌜ Wrote 3 (Mapping.mapPoint (triangle a0 a1 a2 b0 b1 b2 c0 c1 c2) u v) (now (out .entry)) r (now (out .exit)) ⌝ }
 {
-    output::write3(
+    lent_numbers::write3(
         tri::mapping::map_point([[a0, a1, a2], [b0, b1, b2], [c0, c1, c2]], u, v),
         out,
     )
@@ -94,7 +96,7 @@ pub extern "C" fn screens_closest_point(
 ) -> u32
     ensures { λ r. ⌜ Wrote 3 (Tri3.closestPoint (vector x y z) (triangle a0 a1 a2 b0 b1 b2 c0 c1 c2)) (now (out .entry)) r (now (out .exit)) ⌝ }
 {
-    output::write3(
+    lent_numbers::write3(
         tri::tri3::closest_point([x, y, z], [[a0, a1, a2], [b0, b1, b2], [c0, c1, c2]]),
         out,
     )
@@ -140,7 +142,7 @@ pub extern "C" fn screens_gradient(
 ) -> u32
     ensures { λ r. ⌜ Wrote 3 (Potential.scalarPotentialGradient (Potential.uniformTriangle (triangle a0 a1 a2 b0 b1 b2 c0 c1 c2)) (vector x y z)) (now (out .entry)) r (now (out .exit)) ⌝ }
 {
-    output::write3(
+    lent_numbers::write3(
         UniformTriangle::new([[a0, a1, a2], [b0, b1, b2], [c0, c1, c2]]).scalar_potential_gradient([
             x,
             y,
@@ -189,53 +191,6 @@ pub extern "C" fn screens_quality(
     mesh::triangle_quality([[a0, a1, a2], [b0, b1, b2], [c0, c1, c2]])
 }
 
-// The numbers of a panel's record in its fields' order.
-fn record_numbers(p: UniformTriangle) -> [f64; 34]
-    ensures { λ r. ⌜ r ≡ recordNumbers p ⌝ }
-{
-    let t = p.nodes;
-    let n = p.normal;
-    let g = p.edge_tangent;
-    let o = p.edge_outward;
-    let l = p.edge_length;
-    [
-        t[0],
-        t[1],
-        t[2],
-        t[3],
-        t[4],
-        t[5],
-        t[6],
-        t[7],
-        t[8],
-        n[0],
-        n[1],
-        n[2],
-        g[0],
-        g[1],
-        g[2],
-        g[3],
-        g[4],
-        g[5],
-        g[6],
-        g[7],
-        g[8],
-        o[0],
-        o[1],
-        o[2],
-        o[3],
-        o[4],
-        o[5],
-        o[6],
-        o[7],
-        o[8],
-        l[0],
-        l[1],
-        l[2],
-        p.max_edge,
-    ]
-}
-
 // The panel's record: corners, normal, edge tangents, outward edges, edge lengths, longest edge.
 #[no_mangle]
 pub extern "C" fn screens_record(
@@ -252,27 +207,10 @@ pub extern "C" fn screens_record(
 ) -> u32
     ensures { λ r. ⌜ Wrote 34 (recordNumbers (Potential.uniformTriangle (triangle a0 a1 a2 b0 b1 b2 c0 c1 c2))) (now (out .entry)) r (now (out .exit)) ⌝ }
 {
-    output::write34(
+    lent_numbers::write34(
         record_numbers(UniformTriangle::new([[a0, a1, a2], [b0, b1, b2], [c0, c1, c2]])),
         out,
     )
-}
-
-// Three vectors as nine numbers.
-pub fn nine(b: [[f64; 3]; 3]) -> [f64; 9]
-    ensures { λ r. ⌜ r ≡ rowsOf b ⌝ }
-{
-    [
-        b[0][0],
-        b[0][1],
-        b[0][2],
-        b[1][0],
-        b[1][1],
-        b[1][2],
-        b[2][0],
-        b[2][1],
-        b[2][2],
-    ]
 }
 
 // The current densities of a unit value at each corner, corner after corner.
@@ -291,7 +229,7 @@ pub extern "C" fn screens_basis_current_densities(
 ) -> u32
     ensures { λ r. ⌜ Wrote 9 (rowsOf (Density.triangleBasisCurrentDensities (triangle a0 a1 a2 b0 b1 b2 c0 c1 c2))) (now (out .entry)) r (now (out .exit)) ⌝ }
 {
-    output::write9(
+    lent_numbers::write9(
         nine(current_density::triangle_basis_current_densities([
             [a0, a1, a2],
             [b0, b1, b2],
@@ -320,7 +258,7 @@ pub extern "C" fn screens_current_density(
 ) -> u32
     ensures { λ r. ⌜ Wrote 3 (Density.triangleCurrentDensity (triangle a0 a1 a2 b0 b1 b2 c0 c1 c2) (vector s0 s1 s2)) (now (out .entry)) r (now (out .exit)) ⌝ }
 {
-    output::write3(
+    lent_numbers::write3(
         current_density::triangle_current_density(
             [[a0, a1, a2], [b0, b1, b2], [c0, c1, c2]],
             [s0, s1, s2],

@@ -3,6 +3,7 @@
 // are found one by one.
 ghost use mathlib.Core.Path.{_≡_};
 ghost use Prim.Native.Nat.{_+_, _-_, _*_, _/_, _%_, _^_, _≤_, _<_};
+ghost use lib.Dec.{T};
 ghost use lib.Ieee.{binary64, ofBits, toBits};
 ghost use Rattle.square_root.specs.SquareRoot as Spec;
 ghost use Rattle.square_root.specs.Estimate as Estimate;
@@ -12,6 +13,12 @@ ghost use Rattle.square_root.specs.Nearest.{NearRoot, Scaled, Digits};
 pub struct Split {
     pub high: u64,
     pub low: u64,
+}
+
+// A difference of words, modulo 2^64, and the 1 that it takes from the next word.
+pub struct Difference {
+    pub word: u64,
+    pub borrow: u64,
 }
 
 // q * (q + 1), for q up to 2^53.
@@ -28,60 +35,83 @@ fn pronic(q: u64) -> Split
     }
 }
 
-// Whether r is the whole number nearest to the root of m * 2^52. r * (r + 1) exceeds m * 2^52 by
-// less than 2 * r, which is below 2^54, exactly where it is.
-fn is_near_root(m: u64, r: u64) -> bool
-    requires { ⌜ Scaled m ⌝ }
-    requires { ⌜ Digits r ⌝ }
-    ensures { λ y. ⌜ y ≡ Estimate.isNearRoot (m * 2 ^ 52) r ⌝ }
+fn subtract(a: u64, b: u64) -> Difference
+    ensures { λ r. ⌜ (r .word + b ≡ a + r .borrow * 2 ^ 64) × (r .borrow ≤ 1) × (r .word < 2 ^ 64) ⌝ }
 {
-    let p = pronic(r);
-    if p.high < m {
-        return false;
+    let word = std::num::wrapping_sub_u64(a, b);
+    if a < b {
+        Difference {
+            word: word,
+            borrow: 1,
+        }
+    } else {
+        Difference {
+            word: word,
+            borrow: 0,
+        }
     }
-    let excess = p.high - m;
-    if excess >= 4 {
-        return false;
-    }
-    excess * 0x10_0000_0000_0000 + p.low < 2 * r
 }
 
-// Whether c is the pattern of the root of a normal number's pattern b.
+// Whether r is the whole number nearest to the root of m * 2^52: r * (r + 1) exceeds m * 2^52 by less
+// than 2 * r. The upper words say that one word holds the excess, and that r is below 2^54.
+fn is_near_root(m: u64, r: u64) -> bool
+    requires { ⌜ Scaled m ⌝ }
+    requires { ⌜ r + 1 < 2 ^ 64 ⌝ }
+    ensures { λ y. ⌜ y ≡ Estimate.isNearRoot (m * 2 ^ 52) r ⌝ }
+{
+    let excess = subtract(binary64::low_product(r, r + 1), m << 52);
+    if binary64::high_product(r, r + 1) != m / 4096 + excess.borrow {
+        return false;
+    }
+    excess.word < 2 * r
+}
+
+// Whether c is the pattern of the root of a normal number's pattern b. c less the exponent of the root
+// has the root's digits only if c has that exponent.
 fn is_root(b: u64, c: u64) -> bool
     requires { ⌜ (2 ^ 52 ≤ b) × (b < 0x7ff0_0000_0000_0000) ⌝ }
     ensures { λ y. ⌜ y ≡ Estimate.isRoot b c ⌝ }
 {
-    let d = b / 0x10_0000_0000_0000 + 51;
-    if c / 0x10_0000_0000_0000 != d / 2 + 486 {
+    let d = b / 0x10_0000_0000_0000 + 1023;
+    let k = (d / 2 - 1) * 0x10_0000_0000_0000;
+    if c < k {
         return false;
     }
     let m = (0x10_0000_0000_0000 + b % 0x10_0000_0000_0000) << (d % 2);
-    is_near_root(m, 0x10_0000_0000_0000 + c % 0x10_0000_0000_0000)
+    is_near_root(m, c - k)
 }
 
-// One of Newton's steps toward 1 / sqrt(2 * h), where c is 1.5 or nearly.
-fn newton(h: f64, y: f64, c: f64) -> f64
-    ensures { λ r. ⌜ r ≡ Estimate.newton h y c ⌝ }
+// Whether g is the root of the value of a normal number's pattern b.
+fn passes(b: u64, g: f64) -> bool
+    requires { ⌜ (2 ^ 52 ≤ b) × (b < 0x7ff0_0000_0000_0000) ⌝ }
+    ensures { λ y. ⌜ y ≡ Estimate.passes b g ⌝ }
+    ensures { λ y. ⌜ (T y → g ≡ Spec.sqrt (ofBits binary64 b)) ⌝ }
 {
-    y * (c - (h * y) * y)
+    if g != g {
+        return false;
+    }
+    is_root(b, f64::to_bits(g))
 }
 
-// Nearly 1 / sqrt(x), for the x of the pattern b.
+// Nearly k / sqrt(x), for the x of the pattern b, where k is the cube root of 1/2: one of Newton's
+// steps.
 fn inverse_root(b: u64) -> f64
     requires { ⌜ b ≤ 0x7ff0_0000_0000_0000 ⌝ }
     ensures { λ r. ⌜ r ≡ Estimate.inverseRoot b ⌝ }
 {
-    let h = f64::from_bits(b) * 0.5;
+    let h = f64::from_bits(b) * 0.39685026;
     let y = f64::from_bits(0x5fe6_eb50_c7b5_37a9 - b / 2);
-    newton(h, newton(h, y, 1.5008789), 1.5000006)
+    y * (1.1912483 - (h * y) * y)
 }
 
-// p to 26 digits, whose square is exact.
-fn leading_digits(p: f64) -> f64
-    ensures { λ r. ⌜ r ≡ Estimate.leadingDigits p ⌝ }
+// p, nearly the root of the pattern b's value, to 26 digits, whose square is exact. The sum's digits
+// end there.
+fn leading_digits(b: u64, p: f64) -> f64
+    requires { ⌜ b ≤ 0x7ff0_0000_0000_0000 ⌝ }
+    ensures { λ r. ⌜ r ≡ Estimate.leadingDigits b p ⌝ }
 {
-    let t = p * 134217729.0;
-    t - (t - p)
+    let t = f64::from_bits(b / 2 + 0x21a8_0000_0000_0000);
+    (p + t) - t
 }
 
 // s moved by (x - s * s) / (2 * s), to the second order. y is nearly 1 / sqrt(x).
@@ -92,26 +122,17 @@ fn corrected(x: f64, y: f64, s: f64) -> f64
     s + g / (s + s + g * (0.5 * y))
 }
 
-// Nearly the root of x, and nearly always the nearest float.
+// Nearly the root of x, and nearly always the nearest float. The second of Newton's steps has no
+// factor at x * y * y, because k is what it is.
 fn estimate(b: u64) -> f64
     requires { ⌜ b ≤ 0x7ff0_0000_0000_0000 ⌝ }
     ensures { λ r. ⌜ r ≡ Estimate.estimate b ⌝ }
 {
     let x = f64::from_bits(b);
     let y = inverse_root(b);
-    corrected(x, y, leading_digits(x * y))
-}
-
-// Its pattern, 0 for a NaN.
-fn estimate_bits(b: u64) -> u64
-    requires { ⌜ b < 0x7ff0_0000_0000_0000 ⌝ }
-    ensures { λ r. ⌜ r ≡ Estimate.estimateBits b ⌝ }
-{
-    let r = estimate(b);
-    if r != r {
-        return 0;
-    }
-    f64::to_bits(r)
+    let t = x * y;
+    let q = 1.88988234 - t * y;
+    corrected(x, y * q, leading_digits(b, t * q))
 }
 
 // The whole number nearest to the root of m * 2^52, for any m: it is from r on and below r + w, and
@@ -145,24 +166,9 @@ fn exact_root_bits(b: u64) -> u64
     (d / 2 + 485) * 0x10_0000_0000_0000 + r
 }
 
-// The same: the estimate for a normal number, if it passes the test.
-fn root_bits(b: u64) -> u64
-    requires { ⌜ (0 < b) × (b < 0x7ff0_0000_0000_0000) ⌝ }
-    ensures { λ r. ⌜ r < 0x7ff0_0000_0000_0000 ⌝ }
-    ensures { λ r. ⌜ r ≡ toBits binary64 (Spec.sqrt (ofBits binary64 b)) ⌝ }
-{
-    if b >= 0x10_0000_0000_0000 {
-        let c = estimate_bits(b);
-        if is_root(b, c) {
-            return c;
-        }
-    }
-    exact_root_bits(b)
-}
-
-// The root of x: a NaN for a NaN and for what is below zero, and x itself for a zero and for the
-// positive infinity.
-pub fn sqrt(x: f64) -> f64
+// The root of x, digit by digit: a NaN for a NaN and for what is below zero, and x itself for a zero
+// and for the positive infinity.
+fn exact_root(x: f64) -> f64
     ensures { λ r. ⌜ r ≡ Spec.sqrt x ⌝ }
 {
     if x != x {
@@ -173,7 +179,7 @@ pub fn sqrt(x: f64) -> f64
         return x;
     }
     if b < 0x7ff0_0000_0000_0000 {
-        return f64::from_bits(root_bits(b));
+        return f64::from_bits(exact_root_bits(b));
     }
     if b == 0x7ff0_0000_0000_0000 {
         return x;
@@ -182,6 +188,25 @@ pub fn sqrt(x: f64) -> f64
         return x;
     }
     0.0 / 0.0
+}
+
+// The root of x: the estimate for a normal number, if it passes the test.
+pub fn sqrt(x: f64) -> f64
+    ensures { λ r. ⌜ r ≡ Spec.sqrt x ⌝ }
+{
+    if x != x {
+        return x;
+    }
+    let b = f64::to_bits(x);
+    if b >= 0x10_0000_0000_0000 {
+        if b < 0x7ff0_0000_0000_0000 {
+            let r = estimate(b);
+            if passes(b, r) {
+                return r;
+            }
+        }
+    }
+    exact_root(x)
 }
 
 // ---- many roots: the estimates in one loop without a branch, and then the tests
@@ -215,14 +240,12 @@ pub fn checked(x: f64, g: f64) -> f64
         return sqrt(x);
     }
     let b = f64::to_bits(x);
-    if b < 0x10_0000_0000_0000 {
-        return sqrt(x);
-    }
-    if b >= 0x7ff0_0000_0000_0000 {
-        return sqrt(x);
-    }
-    if is_root(b, f64::to_bits(g)) {
-        return g;
+    if b >= 0x10_0000_0000_0000 {
+        if b < 0x7ff0_0000_0000_0000 {
+            if passes(b, g) {
+                return g;
+            }
+        }
     }
     sqrt(x)
 }

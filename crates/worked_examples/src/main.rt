@@ -9,12 +9,10 @@ mod table;
 use lines::bits_line;
 use lines::number_line;
 
-fn main() {
+fn arithmetic() {
     // 1 + 2^-30 and 1 - 2^-30
     let above = 1.000000000931322574615478515625;
     let below = 0.999999999068677425384521484375;
-    let point = sheet::split_point();
-    let flux = sheet::flux();
     bits_line(
         b"fused (1 + 2^-30) x (1 - 2^-30) - 1   ",
         ieee754::mul_add(above, below, -1.0),
@@ -27,6 +25,9 @@ fn main() {
         b"sqrt 2                                ",
         ieee754::sqrt(2.0),
     );
+}
+
+fn panels() {
     number_line(
         b"height 2e-14, refusal                 ",
         sheet::thin_refusal(2e-14) as u64,
@@ -47,6 +48,10 @@ fn main() {
         b"raised by 5.000000000000001, far      ",
         sheet::far_when_raised(5.000000000000001) as u64,
     );
+}
+
+fn halving() {
+    let point = sheet::split_point();
     number_line(
         b"split between this corner and the next",
         sheet::split_edge() as u64,
@@ -54,6 +59,10 @@ fn main() {
     bits_line(b"split point, x                        ", point[0]);
     bits_line(b"split point, y                        ", point[1]);
     bits_line(b"split point, z                        ", point[2]);
+}
+
+fn maps() {
+    let flux = sheet::flux();
     bits_line(b"flux 17                               ", flux[0]);
     bits_line(b"flux 39                               ", flux[1]);
     bits_line(
@@ -69,6 +78,9 @@ fn main() {
         b"display of 1/1024                     ",
         sheet::displayed(),
     );
+}
+
+fn elementary_functions() {
     number_line(
         b"ln, units in the last place, at most 2",
         gaps::worst(0, table::LN),
@@ -81,4 +93,12 @@ fn main() {
         b"atan2, the same                       ",
         gaps::worst(2, table::ATAN2),
     );
+}
+
+fn main() {
+    arithmetic();
+    panels();
+    halving();
+    maps();
+    elementary_functions();
 }

@@ -1,5 +1,4 @@
 -- Both branches by the contract of `atan_at`.
-use borrow.Author.Needs.{needs}
 use Rattle.elementary.specs.Elementary as Spec
 use Rattle.elementary.proofs.atan.Statement.{statement}
 use Rattle.elementary.proofs.atan.Tie as tie
@@ -13,4 +12,4 @@ unfolding Spec.atan
 returns-2 c = rw (c .before .if1 .left, c .atan-at2 .ensures)
 
 pub atan-spec : {M : Type 1} → statement M
-atan-spec = tie.close (tie.spec (search needs) returns (search needs) returns-2)
+atan-spec = tie.close (tie.spec (λ c κs. tt) returns (λ c κs. tt) returns-2)

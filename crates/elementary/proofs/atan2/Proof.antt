@@ -1,5 +1,4 @@
 -- A NaN first; else the calls from the inside out.
-use borrow.Author.Needs.{needs}
 use Rattle.elementary.specs.Elementary as Spec
 use Rattle.elementary.proofs.atan2.Statement.{statement}
 use Rattle.elementary.proofs.atan2.Tie as tie
@@ -18,4 +17,4 @@ returns-2 c =
     rw (← b8 .before .is-nan .ensures, ← b8 .is-nan2 .ensures, b7 .if1 .left, ← b6 .abs .ensures, ← b5 .abs2 .ensures, ← b4 .first-quadrant .ensures, ← b3 .is-sign-negative .ensures, ← b2 .supplement .ensures, ← b1 .is-sign-negative2 .ensures, ← c .signed .ensures)
 
 pub atan2-spec : {M : Type 1} → statement M
-atan2-spec = tie.close (tie.spec (search needs) (search needs) (search needs) returns (search needs) (search needs) (search needs) (search needs) (search needs) (search needs) (search needs) returns-2)
+atan2-spec = tie.close (tie.spec (λ c κs. tt) (λ c κs. tt) (λ c κs. tt) returns (λ c κs. tt) (λ c κs. tt) (λ c κs. tt) (λ c κs. tt) (λ c κs. tt) (λ c κs. tt) (λ c κs. tt) returns-2)

@@ -1,5 +1,4 @@
 -- By the contract of `horner_difference`.
-use borrow.Author.Needs.{needs}
 use Rattle.elementary.specs.Elementary as Spec
 use Rattle.elementary.proofs.atan_at.Statement.{statement}
 use Rattle.elementary.proofs.atan_at.Tie as tie
@@ -9,4 +8,4 @@ unfolding Spec.atanAt
 returns c = rw (c .horner-difference .ensures)
 
 pub atan-at-spec : {M : Type 1} → statement M
-atan-at-spec = tie.close (tie.spec (search needs) returns)
+atan-at-spec = tie.close (tie.spec (λ c κs. tt) returns)

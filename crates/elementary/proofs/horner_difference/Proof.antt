@@ -1,5 +1,6 @@
 -- The coefficients still to come lead from p to Q z, turn by turn.
-use borrow.Author.Needs.{needs}
+use mir.Syntax.{w64}
+use borrow.Author.Needs.{needs, fits-under}
 use mathlib.Core.Path.{refl}
 use Prim.Native.Nat.{_-_}
 use native.Mathlib.Omega.{arith}
@@ -26,4 +27,4 @@ returns : tie.Need-returns Inv-loop μ-loop
 returns c = let l = c .before .loop in none-left (sub binary64) _ _ _ (l .i) (l .p) (omega arith) (l .inv)
 
 pub horner-difference-spec : {M : Type 1} → statement M
-horner-difference-spec = tie.close (tie.spec Inv-loop μ-loop (search needs) loop-holds (search needs) (search needs) (search needs) (search needs) loop-again returns)
+horner-difference-spec = tie.close (tie.spec Inv-loop μ-loop (λ c. omega arith) loop-holds (λ c. fits-under w64 _ 4096 (omega arith) tt) (λ c. omega arith) (λ c. fits-under w64 _ 4096 (omega arith) tt) (λ c. omega arith) loop-again returns)

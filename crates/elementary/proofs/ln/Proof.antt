@@ -1,5 +1,4 @@
 -- The five cases in the order written. Where none of the first four holds, x has the pattern of a finite number above zero, and its pattern stands for x.
-use borrow.Author.Needs.{needs}
 use mathlib.Core.Path.{_≡_, sym, ap, _∙_, subst}
 use mathlib.Core.Bool.{false}
 use lib.Dec.{T}
@@ -58,4 +57,4 @@ returns-5 c =
     rw (← b5 .before .is-nan .ensures, b5 .if1 .left, b4 .if2 .left, b3 .if3 .left, ← b2 .infinity2 .ensures, b1 .if4 .left) e
 
 pub ln-spec : {M : Type 1} → statement M
-ln-spec = tie.close (tie.spec (search needs) (search needs) returns (search needs) returns-2 (search needs) returns-3 (search needs) returns-4 float-to-bits-ln-of-bits ln-of-bits-requires returns-5)
+ln-spec = tie.close (tie.spec (λ c κs. tt) (λ c κs. tt) returns (λ c κs. tt) returns-2 (λ c κs. tt) returns-3 (λ c κs. tt) returns-4 float-to-bits-ln-of-bits ln-of-bits-requires returns-5)

@@ -1,5 +1,4 @@
 -- Both branches by the callees’ contracts.
-use borrow.Author.Needs.{needs}
 use Rattle.elementary.specs.Elementary as Spec
 use Rattle.elementary.proofs.ln_1p.Statement.{statement}
 use Rattle.elementary.proofs.ln_1p.Tie as tie
@@ -13,4 +12,4 @@ unfolding Spec.ln1p
 returns-2 c = rw (c .before .if1 .left, c .ln .ensures)
 
 pub ln-1p-spec : {M : Type 1} → statement M
-ln-1p-spec = tie.close (tie.spec (search needs) returns (search needs) returns-2)
+ln-1p-spec = tie.close (tie.spec (λ c κs. tt) returns (λ c κs. tt) returns-2)

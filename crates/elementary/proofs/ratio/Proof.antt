@@ -1,5 +1,4 @@
 -- The cases in the order written.
-use borrow.Author.Needs.{needs}
 use Rattle.elementary.specs.Elementary as Spec
 use Rattle.elementary.proofs.ratio.Statement.{statement}
 use Rattle.elementary.proofs.ratio.Tie as tie
@@ -21,4 +20,4 @@ unfolding Spec.ratio
 returns-4 c = rw (c .before .before .before .if1 .left, ← c .before .before .infinity .ensures, c .before .if2 .left, c .if3 .left)
 
 pub ratio-spec : {M : Type 1} → statement M
-ratio-spec = tie.close (tie.spec returns (search needs) returns-2 returns-3 returns-4)
+ratio-spec = tie.close (tie.spec returns (λ c κs. tt) returns-2 returns-3 returns-4)

@@ -3,21 +3,21 @@
 use mathlib.Core.Path.{_≡_, refl, sym, ap, _∙_, subst}
 use mathlib.Core.Logic.{_⊎_, inl, inr}
 use mathlib.Core.Bool.{Bool, true, false, not, _&&_, _||_, cond, Bool·beq, true≢false}
-use Prim.Native.Nat.{ℕ, zero, suc, _+_, _-_, _*_, _^_, _≤_, _<_, zero-le}
-use native.Mathlib.Nat.{lt-irrefl, mul-assoc, mul-comm, mul-left-comm, add-zero, zero-mul, mul-zero, mul-one, one-mul, mul-pos, zero-lt-suc, sub-zero, eq-zero-or-pos}
+use Prim.Native.Nat.{ℕ, zero, suc, _+_, _*_, _^_, _≤_, _<_}
+use native.Mathlib.Nat.{lt-irrefl, mul-assoc, mul-comm, mul-left-comm, zero-mul, mul-zero, mul-one, one-mul, mul-pos, zero-lt-suc, eq-zero-or-pos}
 use lib.IntN.{ℤ, pos}
-use lib.Dec.{T, eqb, eqb-refl, eqb→eq}
+use lib.Dec.{T, eqb, eqb-refl}
 use lib.Ieee.{Float, nan, inf, fin, binary64, unlike, up, down, round, sum, add, mul, ne, eq, fits, isNan, nanBits, ofBits, toBits}
-use lib.Ieee.Fits.{round-fits, down-pos}
+use lib.Ieee.Fits.{down-pos}
 use lib.Ieee.Exact.{HasValue}
-use lib.Ieee.Back.{round-whole, whole-unique}
 use lib.Ieee.Bits.{ofBits-toBits, nanBits-is}
 use lib.Ieee.Scale.{round-same}
 use Rattle.binary64.specs.Binary64.{plusZero}
+use Rattle.binary64.proofs.Zeros.{round-nought, sum-nought, zero-term}
 use Rattle.fused_multiply_add.specs.Parts.{mag}
 use Rattle.fused_multiply_add.specs.Guided.{loneProduct}
 use Rattle.fused_multiply_add.specs.Fma.{fma, fmaFin}
-use Rattle.fused_multiply_add.proofs.Laws.Meaning.{sum-alike, sum-more, sum-number, sum-fits}
+use Rattle.fused_multiply_add.proofs.Laws.Meaning.{sum-number, sum-fits}
 use Rattle.fused_multiply_add.proofs.Laws.Value.{signOf, absOf, read-plain, read-inf, read-zero, sum-same}
 
 -- ---- a NaN
@@ -73,12 +73,6 @@ nan-z x y z e = ap (λ (w : Float). add binary64 (mul binary64 x y) w) e ∙ add
     go (fin s m e) (fin t n d) = refl
 
 -- ---- a zero or an infinity as a factor
-
-round-nought : (s : Bool) (a c : ℕ) → 0 < c → a ≡ 0 → round binary64 s a c ≡ fin s 0 (pos 0)
-round-nought s a c C A =
-    round-same binary64 s a c 0 1 C (zero-lt-suc 0) (mul-one a ∙ A ∙ sym (zero-mul c))
-    ∙ whole-unique binary64 (round binary64 s 0 1) (fin s 0 (pos 0)) s 0 (round-fits binary64 s 0 1) (unfold fits in tt) (round-whole binary64 s 0 zero-le)
-    (refl, refl)
 
 -- the product is a zero: z, or the sum of two zeros
 after-zero : (s : Bool) (m : ℕ) (e : ℤ) (n : ℕ) (d : ℤ) (z : Float) → m * up e * (n * up d) ≡ 0 → add binary64 (fin s 0 (pos 0)) z ≡ fmaFin s m e n d z
@@ -138,15 +132,6 @@ inf-z (inf a) y z s t u n k X Y E = absurd X
 inf-z (fin a m e) nan z s t u n k X Y E = absurd Y
 inf-z (fin a m e) (inf b) z s t u n k X Y E = absurd Y
 
-sum-nought : (s u : Bool) (a c : ℕ) → 0 < a → sum binary64 s a u 0 c ≡ round binary64 s a c
-sum-nought s u a c A = go (Bool·beq s u) refl
-  where
-    go : (b : Bool) → Bool·beq s u ≡ b → sum binary64 s a u 0 c ≡ round binary64 s a c
-    go true e = sum-alike binary64 a 0 c s u e ∙ ap (λ (b : Bool). round binary64 s (cond b (a + 0) (a - 0)) c) e
-        ∙ ap (λ (x : ℕ). round binary64 s x c) (add-zero a)
-    go false e = sum-more binary64 a 0 c s u e A ∙ ap (λ (b : Bool). round binary64 s (cond b (a + 0) (a - 0)) c) e
-        ∙ ap (λ (x : ℕ). round binary64 s x c) (sub-zero a)
-
 value-some : (m u n l d : ℕ) → m * u * l ≡ n * d → 0 < n → 0 < d → 0 < m * u
 value-some m u n l d e N D = go (m * u) e
   where
@@ -181,13 +166,6 @@ and-left false b h = absurd (true≢false (sym h))
 and-right : (a b : Bool) → a && b ≡ true → b ≡ true
 and-right true b h = h
 and-right false b h = absurd (true≢false (sym h))
-
-zero-term : (u : Bool) (p : ℕ) (c : ℤ) → eq (fin u p c) plusZero ≡ true → p * up c ≡ 0
-unfolding eq ofBits
-zero-term u p c h =
-    sym (mul-one (p * up c))
-    ∙ eqb→eq (p * up c * 1) (0 * 1 * down c)
-    (subst T (sym (and-left (eqb (p * up c * 1) (0 * 1 * down c)) (Bool·beq u false || eqb (p * up c * 1) 0) h)) tt) ∙ zero-mul (down c)
 
 zero-inf : (u b : Bool) → eq (inf u) plusZero && b ≡ false
 unfolding eq ofBits

@@ -1,9 +1,9 @@
--- How far x * x + z with two roundings is from the exact sum: each rounding errs by half a unit of its last digit at most (binary64's `grid-near`), and the
--- units are bounded by the exponents.
+-- How far x * y + z with two roundings is from the exact sum, whatever the signs: each rounding errs by half a unit of its last digit at most (binary64's
+-- `grid-near`), and the units are bounded by the exponents. Where product and addend cancel, the product's error stays what it was.
 use mathlib.Core.Path.{_≡_, refl, sym, ap, _∙_, subst}
-use mathlib.Core.Bool.{Bool, true, false}
+use mathlib.Core.Bool.{Bool, true, false, cond}
 use Prim.Native.Nat.{ℕ, zero, suc, _+_, _-_, _*_, _/_, _^_, _≤_, _<_}
-use native.Mathlib.Nat.{le-trans, le-of-eq, lt-of-le-of-lt, mul-comm, mul-assoc, mul-left-comm, mul-right-comm, add-mul, mul-pos, mul-le-mul-right, le-of-mul-le-mul-right, eq-of-mul-eq-mul-right}
+use native.Mathlib.Nat.{le-trans, le-of-eq, lt-of-le-of-lt, mul-comm, mul-assoc, mul-left-comm, mul-right-comm, add-mul, zero-mul, mul-pos, le-of-mul-le-mul-right, eq-of-mul-eq-mul-right}
 use native.Mathlib.Omega.{arith}
 use lib.Dec.{T}
 use lib.Pow.{pow-add, pow-pos}
@@ -11,42 +11,45 @@ use lib.Ieee.{Float, nan, inf, fin, binary64, prec, low, up, down, size, unlike,
 use lib.Ieee.Fits.{down-pos}
 use lib.Ieee.Exact.{HasValue}
 use lib.Ieee.Order.{drop}
-use lib.Ieee.Scale.{round-same, grid, finite, round-val, round-under}
-use Rattle.binary64.proofs.Nearest.{Near, grid-near}
+use lib.Ieee.Scale.{round-same, grid, finite}
+use Rattle.binary64.proofs.Nearest.{Near, grid-near, round-value, round-finite}
 use Rattle.binary64.proofs.Size.{exponent-lt}
-use Rattle.fused_multiply_add.proofs.Laws.Meaning.{sum-alike}
+use Rattle.fused_multiply_add.specs.Guided.{added, taken}
+use Rattle.fused_multiply_add.proofs.Laws.Once.{RoundedOnce, sum-once, plus-terms}
 use Rattle.fused_multiply_add.proofs.Laws.Value.{add-values}
 
--- ---- a value has one size
+-- ---- a value has one sign and one size
+
+pub value-sign : (x : Float) (s t : Bool) (a b c : ℕ) → HasValue x s a c → HasValue x t b c → s ≡ t
+value-sign nan s t a b c p q = absurd p
+value-sign (inf u) s t a b c p q = absurd p
+value-sign (fin u m e) s t a b c p q = sym (p .0) ∙ q .0
 
 pub value-one : (x : Float) (s t : Bool) (a b c : ℕ) → 0 < c → HasValue x s a c → HasValue x t b c → a ≡ b
 value-one nan s t a b c C p q = absurd p
 value-one (inf u) s t a b c C p q = absurd p
 value-one (fin u m e) s t a b c C p q = eq-of-mul-eq-mul-right (down e) (down-pos e) a b (sym (p .1) ∙ q .1)
 
--- ---- the product and the sum, each rounded
+-- ---- the product, rounded
 
-square-round : (x : Float) (s : Bool) (n l : ℕ) → 0 < l → HasValue x s n l → mul binary64 x x ≡ round binary64 false (n * n) (l * l)
+product-round : (x y : Float) (s t : Bool) (n k l : ℕ) → 0 < l → HasValue x s n l → HasValue y t k l
+    → mul binary64 x y ≡ round binary64 (unlike s t) (n * k) (l * l)
 unfolding mul
-square-round nan s n l L h = absurd h
-square-round (inf u) s n l L h = absurd h
-square-round (fin u m e) s n l L h =
-    ap (λ (b : Bool). round binary64 b (m * up e * (m * up e)) (down e * down e)) (self u)
-    ∙ round-same binary64 false (m * up e * (m * up e)) (down e * down e) (n * n) (l * l) (mul-pos (down-pos e) (down-pos e)) (mul-pos L L)
-    (sort₁ (m * up e) l ∙ ap (λ (w : ℕ). w * (m * up e * l)) (h .1) ∙ ap (λ (w : ℕ). n * down e * w) (h .1) ∙ sort₂ n (down e))
+product-round nan y s t n k l L h j = absurd h
+product-round (inf u) y s t n k l L h j = absurd h
+product-round (fin u m e) nan s t n k l L h j = absurd j
+product-round (fin u m e) (inf v) s t n k l L h j = absurd j
+product-round (fin u m e) (fin v i d) s t n k l L h j =
+    ap (λ (b : Bool). round binary64 (unlike b v) (m * up e * (i * up d)) (down e * down d)) (h .0)
+    ∙ ap (λ (b : Bool). round binary64 (unlike s b) (m * up e * (i * up d)) (down e * down d)) (j .0)
+    ∙ round-same binary64 (unlike s t) (m * up e * (i * up d)) (down e * down d) (n * k) (l * l) (mul-pos (down-pos e) (down-pos d)) (mul-pos L L)
+    (sort₁ (m * up e) (i * up d) l ∙ ap (λ (w : ℕ). w * (i * up d * l)) (h .1) ∙ ap (λ (w : ℕ). n * down e * w) (j .1) ∙ sort₂ n (down e) k (down d))
   where
-    self : (u : Bool) → unlike u u ≡ false
-    self true = refl
-    self false = refl
+    sort₁ : (a b l : ℕ) → a * b * (l * l) ≡ a * l * (b * l)
+    sort₁ a b l = simp (mul-assoc, mul-left-comm)
 
-    sort₁ : (a l : ℕ) → a * a * (l * l) ≡ a * l * (a * l)
-    sort₁ a l = simp (mul-assoc, mul-comm, mul-left-comm)
-
-    sort₂ : (n d : ℕ) → n * d * (n * d) ≡ n * n * (d * d)
-    sort₂ n d = simp (mul-assoc, mul-comm, mul-left-comm)
-
-pub add-round : (p z : Float) (a b l : ℕ) → 0 < l → HasValue p false a l → HasValue z false b l → add binary64 p z ≡ round binary64 false (a + b) l
-add-round p z a b l L h k = add-values p z false false a b l L h k ∙ sum-alike binary64 a b l false false refl
+    sort₂ : (n d k c : ℕ) → n * d * (k * c) ≡ n * k * (d * c)
+    sort₂ n d k c = simp (mul-assoc, mul-left-comm)
 
 -- a finite sum has a finite first term
 first-finite : (p z : Float) (s r : Bool) (b w l : ℕ) → HasValue z s b l → HasValue (add binary64 p z) r w l → T (finite p)
@@ -62,37 +65,92 @@ value-finite nan s a c h = absurd h
 value-finite (inf u) s a c h = absurd h
 value-finite (fin u m e) s a c h = tt
 
--- ---- the law: w is what the two operations give of n * n + b, in units of the smallest value, and g what the first gives
+-- ---- the two operations on ±a and ±b: the product a is rounded to g, and the sum of ±g and ±b, which is v, to w; minus where cp and cz. a is in units of
+-- the smallest value's square, the others in units of the smallest value
 
-module _ (x z : Float) (s r : Bool) (n b w : ℕ) (X : HasValue x s n (2 ^ low binary64)) (Z : HasValue z false b (2 ^ low binary64))
-    (W : HasValue (add binary64 (mul binary64 x x) z) r w (2 ^ low binary64)) where
+pub record TwoRoundings (cp : Bool) (a : ℕ) (cz : Bool) (b w : ℕ) : Type 0 where
+  pub g : ℕ
+  pub v : ℕ
+  pub exact : taken cp g cz b v ≡ added cp g cz b
+  -- each errs by half a unit of its last digit at most
+  pub first : Near (g * (2 ^ 1074 * 2 ^ 1074)) (a * 2 ^ 1074) (2 ^ 1074 * 2 ^ 1074 * 2 ^ drop 53 (a * 2 ^ 1074) (2 ^ 1074 * 2 ^ 1074))
+  pub second : Near (w * 2 ^ 1074) (v * 2 ^ 1074) (2 ^ 1074 * 2 ^ drop 53 (v * 2 ^ 1074) (2 ^ 1074))
+
+-- ±v = ±g ± b, with the sign of v carried over
+oriented : (np nz nt : Bool) (v g b : ℕ) → cond nt 0 v + (cond np g 0 + cond nz b 0) ≡ cond nt v 0 + (cond np 0 g + cond nz 0 b)
+    → taken (unlike np nt) g (unlike nz nt) b v ≡ added (unlike np nt) g (unlike nz nt) b
+oriented true true true v g b e = omega arith
+oriented true true false v g b e = omega arith
+oriented true false true v g b e = omega arith
+oriented true false false v g b e = omega arith
+oriented false true true v g b e = omega arith
+oriented false true false v g b e = omega arith
+oriented false false true v g b e = omega arith
+oriented false false false v g b e = omega arith
+
+module _ (x y z : Float) (s t u r : Bool) (n k b w : ℕ) (X : HasValue x s n (2 ^ low binary64)) (Y : HasValue y t k (2 ^ low binary64))
+    (Z : HasValue z u b (2 ^ low binary64)) (W : HasValue (add binary64 (mul binary64 x y) z) r w (2 ^ low binary64)) where
   abbrev l : ℕ
   l = 2 ^ low binary64
 
-  abbrev g : ℕ
-  g = grid binary64 (n * n) (l * l)
+  abbrev product : ℕ
+  product = grid binary64 (n * k) (l * l)
 
-  first : HasValue (mul binary64 x x) false g l
+  L : 0 < 2 ^ low binary64
+  L = pow-pos (low binary64)
+
+  first : HasValue (mul binary64 x y) (unlike s t) product l
   first =
-      let e = square-round x s n l (pow-pos (low binary64)) X in
-      let t : T (finite (round binary64 false (n * n) (l * l))) = subst (λ (v : Float). T (finite v)) e (first-finite (mul binary64 x x) z false r b w l Z W) in
-      subst (λ (v : Float). HasValue v false g l) (sym e) (round-val binary64 (n * n) (l * l) (round-under binary64 (n * n) (l * l) t))
+      let e = product-round x y s t n k l L X Y in
+      let f : T (finite (round binary64 (unlike s t) (n * k) (l * l))) =
+      subst (λ (v : Float). T (finite v)) e (first-finite (mul binary64 x y) z u r b w l Z W) in
+      subst (λ (v : Float). HasValue v (unlike s t) product l) (sym e)
+      (round-value binary64 (unlike s t) (n * k) (l * l) (round-finite binary64 (unlike s t) (n * k) (l * l) f))
 
-  second : w ≡ grid binary64 (g + b) l
-  second =
-      let e = add-round (mul binary64 x x) z g b l (pow-pos (low binary64)) first Z in
-      let v : HasValue (round binary64 false (g + b) l) r w l = subst (λ (y : Float). HasValue y r w l) e W in
-      value-one (round binary64 false (g + b) l) r false w (grid binary64 (g + b) l) l (pow-pos (low binary64)) v
-      (round-val binary64 (g + b) l (round-under binary64 (g + b) l (value-finite (round binary64 false (g + b) l) r w l v)))
+  once : RoundedOnce (add binary64 (mul binary64 x y) z) (unlike s t) product u b l
+  once =
+      subst (λ (v : Float). RoundedOnce v (unlike s t) product u b l) (sym (add-values (mul binary64 x y) z (unlike s t) u product b l L first Z))
+      (sum-once (unlike s t) u product b l)
 
-  -- each of the two errs by half a unit of its last digit at most
-  pub first-near : Near (g * (l * l)) (n * n * l) (l * l * 2 ^ drop (prec binary64) (n * n * l) (l * l))
-  first-near = grid-near binary64 (n * n) (l * l) (mul-pos (pow-pos (low binary64)) (pow-pos (low binary64)))
+  rounded : (o : RoundedOnce (add binary64 (mul binary64 x y) z) (unlike s t) product u b l)
+      → HasValue (add binary64 (mul binary64 x y) z) (o .negative) (grid binary64 (o .size) l) l
+  rounded o =
+      subst (λ (q : Float). HasValue q (o .negative) (grid binary64 (o .size) l) l) (sym (o .rounded))
+      (round-value binary64 (o .negative) (o .size) l (round-finite binary64 (o .negative) (o .size) l
+      (subst (λ (q : Float). T (finite q)) (o .rounded) (value-finite (add binary64 (mul binary64 x y) z) r w l W))))
 
-  pub second-near : Near (w * l) ((g + b) * l) (l * 2 ^ drop (prec binary64) ((g + b) * l) l)
-  second-near =
-      subst (λ (y : ℕ). Near (y * l) ((g + b) * l) (l * 2 ^ drop (prec binary64) ((g + b) * l) l)) (sym second)
-      (grid-near binary64 (g + b) l (pow-pos (low binary64)))
+  two-of : (o : RoundedOnce (add binary64 (mul binary64 x y) z) (unlike s t) product u b l) → TwoRoundings (unlike (unlike s t) r) (n * k) (unlike u r) b w
+  two-of o =
+      let v = o .size in
+      let sign : o .negative ≡ r = value-sign (add binary64 (mul binary64 x y) z) (o .negative) r (grid binary64 v l) w l (rounded o) W in
+      let size-is : grid binary64 v l ≡ w = value-one (add binary64 (mul binary64 x y) z) (o .negative) r (grid binary64 v l) w l L (rounded o) W in
+      record {
+        g = product;
+        v = v;
+        exact =
+            oriented (unlike s t) u r v product b
+            (subst (λ (q : Bool). cond q 0 v + (cond (unlike s t) product 0 + cond u b 0) ≡ cond q v 0 + (cond (unlike s t) 0 product + cond u 0 b)) sign
+            (o .exact));
+        first = grid-near binary64 (n * k) (l * l) (mul-pos L L);
+        second = subst (λ (q : ℕ). Near (q * l) (v * l) (l * 2 ^ drop (prec binary64) (v * l) l)) size-is (grid-near binary64 v l L);
+      }
+
+  pub two-roundings : TwoRoundings (unlike (unlike s t) r) (n * k) (unlike u r) b w
+  two-roundings = two-of once
+
+  -- a product and an addend that are not negative
+  pub sum-plus : unlike s t ≡ false → u ≡ false → r ≡ false
+  sum-plus p q =
+      sym (value-sign (add binary64 (mul binary64 x y) z) (once .negative) r (grid binary64 (once .size) l) w l (rounded once) W)
+      ∙ plus-sign
+    where
+      plus-sign : once .negative ≡ false
+      plus-sign = go (unlike s t) u p q once
+        where
+          go : (e f : Bool) → e ≡ false → f ≡ false → (o : RoundedOnce (add binary64 (mul binary64 x y) z) e product f b l) → o .negative ≡ false
+          go false false p q o = plus-terms (add binary64 (mul binary64 x y) z) product b l o
+          go true f p q o = absurd (mathlib.Core.Bool.true≢false p)
+          go false true p q o = absurd (mathlib.Core.Bool.true≢false q)
 
 -- ---- the two errors together
 
@@ -106,34 +164,47 @@ near-cancel v w u l L h = (
     back : (w : ℕ) → w * l * 2 + u * l ≡ (w * 2 + u) * l
     back w = ap (λ (x : ℕ). x + u * l) (mul-right-comm w l 2) ∙ sym (add-mul (w * 2) u l)
 
-near-scale : (v w u l : ℕ) → Near v w u → Near (v * l) (w * l) (u * l)
-near-scale v w u l h = (
-  le-trans (le-of-eq (mul-right-comm v l 2)) (le-trans (mul-le-mul-right l (h .0)) (le-of-eq (forth w))),
-  le-trans (le-of-eq (mul-right-comm w l 2))
-      (le-trans (mul-le-mul-right l (h .1)) (le-of-eq (forth v))),
-)
-  where
-    forth : (w : ℕ) → (w * 2 + u) * l ≡ w * l * 2 + u * l
-    forth w = add-mul (w * 2) u l ∙ ap (λ (x : ℕ). x + u * l) (mul-right-comm w 2 l)
-
-near-add : (v w u b : ℕ) → Near v w u → Near (v + b) (w + b) u
-near-add v w u b h = omega arith
-
-near-trans : (v w y u t : ℕ) → Near v w u → Near w y t → Near v y (u + t)
-near-trans v w y u t h k = omega arith
-
 near-more : (v w u t : ℕ) → Near v w u → u ≤ t → Near v w t
 near-more v w u t h k = omega arith
 
-both-near : (a b g w l p t : ℕ) → 0 < l → Near (g * (l * l)) (a * l) (l * l * p) → Near (w * l) ((g + b) * l) (l * t) → Near (w * l) (a + b * l) (t * l + p * l)
-both-near a b g w l p t L h k =
+-- both sides of the rest, in other units
+terms-mul : (c d : Bool) (p q z y l : ℕ) → (cond c p q + cond d z y) * l ≡ cond c (p * l) (q * l) + cond d (z * l) (y * l)
+terms-mul c d p q z y l =
+    add-mul (cond c p q) (cond d z y) l ∙ ap (λ (x : ℕ). x + cond d z y * l) (one c p q) ∙ ap (λ (x : ℕ). cond c (p * l) (q * l) + x) (one d z y)
+  where
+    one : (c : Bool) (a b : ℕ) → cond c a b * l ≡ cond c (a * l) (b * l)
+    one true a b = refl
+    one false a b = refl
+
+added-mul : (cp cz : Bool) (p z l : ℕ) → added cp p cz z * l ≡ added cp (p * l) cz (z * l)
+added-mul cp cz p z l = terms-mul cp cz 0 p 0 z l ∙ ap (λ (x : ℕ). cond cp x (p * l) + cond cz x (z * l)) (zero-mul l)
+
+taken-mul : (cp cz : Bool) (p z t l : ℕ) → taken cp p cz z t * l ≡ taken cp (p * l) cz (z * l) (t * l)
+taken-mul cp cz p z t l =
+    add-mul t (cond cp p 0 + cond cz z 0) l
+    ∙ ap (λ (x : ℕ). t * l + x) (terms-mul cp cz p 0 z 0 l ∙ ap (λ (x : ℕ). cond cp (p * l) x + cond cz (z * l) x) (zero-mul l))
+
+-- the sum and the product exchanged for what is near them
+near-total : (v w a c u : ℕ) → Near w v u → v + a ≡ c → Near (w + a) c u
+near-total v w a c u h e = omega arith
+
+near-product : (cp : Bool) (g a w y z u t : ℕ) → Near g a t → Near (w + (cond cp g 0 + y)) (cond cp 0 g + z) u
+    → Near (w + (cond cp a 0 + y)) (cond cp 0 a + z) (u + t)
+near-product true g a w y z u t h k = omega arith
+near-product false g a w y z u t h k = omega arith
+
+both-near : (cp cz : Bool) (a b g v w l p t : ℕ) → 0 < l → Near (g * (l * l)) (a * l) (l * l * p) → Near (w * l) (v * l) (l * t)
+    → taken cp g cz b v ≡ added cp g cz b → Near (taken cp a cz (b * l) (w * l)) (added cp a cz (b * l)) (t * l + p * l)
+both-near cp cz a b g v w l p t L h k e =
     let first : Near (g * l) a (p * l) =
     near-cancel (g * l) a (p * l) l L
     (subst (λ (x : ℕ). Near x (a * l) (p * l * l)) (sym (mul-assoc g l l))
     (subst (λ (x : ℕ). Near (g * (l * l)) (a * l) x) (mul-comm (l * l) p ∙ sym (mul-assoc p l l)) h)) in
-    let second : Near (w * l) (g * l + b * l) (t * l) =
-    subst (λ (x : ℕ). Near (w * l) x (t * l)) (add-mul g b l) (subst (λ (x : ℕ). Near (w * l) ((g + b) * l) x) (mul-comm l t) k) in
-    near-trans (w * l) (g * l + b * l) (a + b * l) (t * l) (p * l) second (near-add (g * l) a (p * l) (b * l) first)
+    let second : Near (w * l) (v * l) (t * l) = subst (λ (x : ℕ). Near (w * l) (v * l) x) (mul-comm l t) k in
+    let total : taken cp (g * l) cz (b * l) (v * l) ≡ added cp (g * l) cz (b * l) =
+    sym (taken-mul cp cz g b v l) ∙ ap (λ (x : ℕ). x * l) e ∙ added-mul cp cz g b l in
+    near-product cp (g * l) a (w * l) (cond cz (b * l) 0) (cond cz 0 (b * l)) (t * l) (p * l) first
+    (near-total (v * l) (w * l) (cond cp (g * l) 0 + cond cz (b * l) 0) (added cp (g * l) cz (b * l)) (t * l) second total)
 
 -- the last digit of the product is 2 ^ 53 units at most
 product-unit : (a e : ℕ) → a < 2 ^ (106 + e) → 968 ≤ e → drop 53 (a * 2 ^ 1074) (2 ^ 1074 * 2 ^ 1074) ≤ e - 1021
@@ -191,28 +262,35 @@ sum-unit v w e h n = go (size v - 53) refl
         more : (k : ℕ) → suc k ≤ 51 + suc k
         more k = omega arith
 
--- in units of 2 ^ (e - 2148): the candidate c is near the exact sum, e being twice the exponent's field of x less 2
-pub square-error : (x z : Float) (s r : Bool) (n b w e i m c y : ℕ) → HasValue x s n (2 ^ 1074) → HasValue z false b (2 ^ 1074)
-    → HasValue (add binary64 (mul binary64 x x) z) r w (2 ^ 1074)
-    → n * n < 2 ^ (106 + e) → 1021 ≤ e → w < 2 ^ (52 + i) → i + 1074 ≡ m + 1 + e → w * 2 ^ 1074 ≡ c * 2 ^ e → n * n + b * 2 ^ 1074 ≡ y * 2 ^ e
-    → Near c y (2 ^ (m + 1) + 2 ^ 53)
-square-error x z s r n b w e i m c y X Z W small E lw I C Y =
+-- in units of 2 ^ (e - 2148), of which the product is p, z is y and the candidate c: the candidate is near the exact sum
+pub candidate-error : (cp cz : Bool) (a b w e i m c p y : ℕ) → TwoRoundings cp a cz b w → a < 2 ^ (106 + e) → 1021 ≤ e → w < 2 ^ (52 + i)
+    → i + 1074 ≡ m + 1 + e → a ≡ p * 2 ^ e → b * 2 ^ 1074 ≡ y * 2 ^ e → w * 2 ^ 1074 ≡ c * 2 ^ e
+    → Near (taken cp p cz y c) (added cp p cz y) (2 ^ (m + 1) + 2 ^ 53)
+candidate-error cp cz a b w e i m c p y o small E lw I A B C =
     let l = 2 ^ 1074 in
-    let p = drop 53 (n * n * l) (l * l) in
-    let t = drop 53 ((g x z s r n b w X Z W + b) * l) l in
-    let h : Near (w * l) (n * n + b * l) (2 ^ t * l + 2 ^ p * l) =
-    both-near (n * n) b (g x z s r n b w X Z W) w l (2 ^ p) (2 ^ t) (pow-pos 1074) (first-near x z s r n b w X Z W) (second-near x z s r n b w X Z W) in
+    let g = o .g in
+    let v = o .v in
+    let j = drop 53 (a * l) (l * l) in
+    let t = drop 53 (v * l) l in
+    let h : Near (taken cp a cz (b * l) (w * l)) (added cp a cz (b * l)) (2 ^ t * l + 2 ^ j * l) =
+    both-near cp cz a b g v w l (2 ^ j) (2 ^ t) (pow-pos 1074) (o .first) (o .second) (o .exact) in
     let ht : 2 ^ t * l ≤ 2 ^ (m + 1) * 2 ^ e =
     le-trans (le-of-eq (sym (pow-add 2 t 1074)))
-    (le-trans (lib.Pow.pow-mono (subst (λ (q : ℕ). t + 1074 ≤ q) I
-    (raise t i 1074 (sum-unit (g x z s r n b w X Z W + b) w i lw (second-near x z s r n b w X Z W))))) (le-of-eq (pow-add 2 (m + 1) e))) in
-    let hp : 2 ^ p * l ≤ 2 ^ 53 * 2 ^ e =
-    le-trans (le-of-eq (sym (pow-add 2 p 1074)))
-    (le-trans (lib.Pow.pow-mono (total p e E (product-unit (n * n) e small (weak e E)))) (le-of-eq (pow-add 2 53 e))) in
-    near-cancel c y (2 ^ (m + 1) + 2 ^ 53) (2 ^ e) (pow-pos e)
-    (subst (λ (q : ℕ). Near q (y * 2 ^ e) ((2 ^ (m + 1) + 2 ^ 53) * 2 ^ e)) C (subst (λ (q : ℕ). Near (w * l) q ((2 ^ (m + 1) + 2 ^ 53) * 2 ^ e)) Y
-    (near-more (w * l) (n * n + b * l) (2 ^ t * l + 2 ^ p * l) ((2 ^ (m + 1) + 2 ^ 53) * 2 ^ e) h
-    (le-trans (native.Mathlib.Nat.add-le-add ht hp) (le-of-eq (sym (add-mul (2 ^ (m + 1)) (2 ^ 53) (2 ^ e))))))))
+    (le-trans (lib.Pow.pow-mono (subst (λ (q : ℕ). t + 1074 ≤ q) I (raise t i 1074 (sum-unit v w i lw (o .second)))))
+    (le-of-eq (pow-add 2 (m + 1) e))) in
+    let hp : 2 ^ j * l ≤ 2 ^ 53 * 2 ^ e =
+    le-trans (le-of-eq (sym (pow-add 2 j 1074)))
+    (le-trans (lib.Pow.pow-mono (total j e E (product-unit a e small (weak e E)))) (le-of-eq (pow-add 2 53 e))) in
+    let u = (2 ^ (m + 1) + 2 ^ 53) * 2 ^ e in
+    let more : Near (taken cp a cz (b * l) (w * l)) (added cp a cz (b * l)) u =
+    near-more (taken cp a cz (b * l) (w * l)) (added cp a cz (b * l)) (2 ^ t * l + 2 ^ j * l) u h
+    (le-trans (native.Mathlib.Nat.add-le-add ht hp) (le-of-eq (sym (add-mul (2 ^ (m + 1)) (2 ^ 53) (2 ^ e))))) in
+    near-cancel (taken cp p cz y c) (added cp p cz y) (2 ^ (m + 1) + 2 ^ 53) (2 ^ e) (pow-pos e)
+    (subst (λ (q : ℕ). Near q (added cp p cz y * 2 ^ e) u) (sym (taken-mul cp cz p y c (2 ^ e)))
+    (subst (λ (q : ℕ). Near (taken cp (p * 2 ^ e) cz (y * 2 ^ e) (c * 2 ^ e)) q u) (sym (added-mul cp cz p y (2 ^ e)))
+    (subst (λ (q : ℕ). Near (taken cp q cz (y * 2 ^ e) (c * 2 ^ e)) (added cp q cz (y * 2 ^ e)) u) A
+    (subst (λ (q : ℕ). Near (taken cp a cz q (c * 2 ^ e)) (added cp a cz q) u) B
+    (subst (λ (q : ℕ). Near (taken cp a cz (b * l) q) (added cp a cz (b * l)) u) C more)))))
   where
     raise : (t i k : ℕ) → t ≤ i → t + k ≤ i + k
     raise t i k h = omega arith
@@ -222,16 +300,3 @@ square-error x z s r n b w e i m c y X Z W small E lw I C Y =
 
     weak : (e : ℕ) → 1021 ≤ e → 968 ≤ e
     weak e h = omega arith
-
--- the sum has no minus sign
-module _ (x z : Float) (s r : Bool) (n b w : ℕ) (X : HasValue x s n (2 ^ low binary64)) (Z : HasValue z false b (2 ^ low binary64))
-    (W : HasValue (add binary64 (mul binary64 x x) z) r w (2 ^ low binary64)) where
-  pub sum-plus : HasValue (add binary64 (mul binary64 x x) z) false w (2 ^ low binary64)
-  sum-plus =
-      let l₀ = 2 ^ low binary64 in
-      let g₀ = g x z s r n b w X Z W in
-      let e = add-round (mul binary64 x x) z g₀ b l₀ (pow-pos (low binary64)) (first x z s r n b w X Z W) Z in
-      let v : HasValue (round binary64 false (g₀ + b) l₀) r w l₀ = subst (λ (y : Float). HasValue y r w l₀) e W in
-      subst (λ (y : Float). HasValue y false w l₀) (sym e)
-      (subst (λ (q : ℕ). HasValue (round binary64 false (g₀ + b) l₀) false q l₀) (sym (second x z s r n b w X Z W))
-      (round-val binary64 (g₀ + b) l₀ (round-under binary64 (g₀ + b) l₀ (value-finite (round binary64 false (g₀ + b) l₀) r w l₀ v))))

@@ -2,12 +2,12 @@
 -- stands for the product itself, since the sum's last kept digit is at least 8 places above the cut (`jam-add`, `jam-sub`, `jam-round`). So the hardware's
 -- one rounding of z and the cut product is the rounding of the exact sum.
 use mathlib.Core.Path.{_≡_, refl, sym, ap, _∙_, subst}
-use mathlib.Core.Bool.{Bool, true, false, cond}
+use mathlib.Core.Bool.{Bool, true, false}
 use Prim.Native.Nat.{ℕ, suc, _+_, _-_, _*_, _/_, _%_, _^_, _≤_, _<_}
-use native.Mathlib.Nat.{le-trans, le-of-eq, le-of-lt, lt-of-lt-of-le, lt-of-le-of-lt, mul-comm, mul-assoc, mul-left-comm, add-mul, add-comm, mul-le-mul-right, mul-lt-mul-of-pos-right, mul-mod-left}
+use native.Mathlib.Nat.{le-trans, le-of-lt, lt-of-lt-of-le, lt-of-le-of-lt, mul-assoc, add-mul, add-comm, mul-le-mul-right, mul-lt-mul-of-pos-right}
 use native.Mathlib.Omega.{arith}
 use lib.Dec.{T}
-use lib.Pow.{pow-add, pow-pos, pow-mono}
+use lib.Pow.{pow-add, pow-pos}
 use lib.Ieee.{Float, binary64, unlike, round, sum, add, fits, toBits}
 use lib.Ieee.Exact.{HasValue}
 use Rattle.fused_multiply_add.specs.Jam.{Jam}
@@ -15,8 +15,8 @@ use Rattle.fused_multiply_add.specs.Guided.{Rest}
 use Rattle.fused_multiply_add.specs.Fma.{fma}
 use Rattle.fused_multiply_add.proofs.Laws.Jam.{jam-add, jam-sub, sub-mul}
 use Rattle.fused_multiply_add.proofs.Laws.Meaning.{sum-alike, sum-less, sum-more}
-use Rattle.fused_multiply_add.proofs.Laws.Value.{signOf, fma-values, sum-same, add-values}
-use Rattle.fused_multiply_add.proofs.Laws.Guided.{normal-value, digits-lt, product-lt}
+use Rattle.fused_multiply_add.proofs.Laws.Value.{signOf, fma-values, add-units}
+use Rattle.fused_multiply_add.proofs.Laws.Guided.{normal-value, digits-ge, digits-lt, product-lt, product-units, units-shift, shift-ge, shift-even}
 use Rattle.fused_multiply_add.proofs.Laws.Residual.{jam-round}
 use Rattle.fused_multiply_add.proofs.Laws.Tests.{Far}
 
@@ -86,31 +86,6 @@ module _ (a p f b : ℕ) (even : a % 2 ≡ 0) (big : 2 ^ 61 ≤ a) (small : f < 
           ∙ differ true
           ∙ sym (sum-more binary64 A F den true false refl (up-b (f * 2 ^ 55) (a * 2 ^ 55) cut-below))
 
--- ---- the cut product as a float: f above or below 2 ^ 51
-
-pub offset-value : (d : Float) (n : Bool) (f r e : ℕ) → 0 < f → f < 2 ^ 51 → r ≡ cond n (2 ^ 51 - f) (2 ^ 51 + f) → Rest d r e
-    → HasValue d n (f * 2 ^ (e - 1)) (2 ^ 1074)
-offset-value d true f r e some small R rest =
-    subst (λ (x : ℕ). HasValue d true (x * 2 ^ (e - 1)) (2 ^ 1074)) (size f r small R) (rest .minus (below f r some small R))
-  where
-    below : (f r : ℕ) → 0 < f → f < 2 ^ 51 → r ≡ 2 ^ 51 - f → r < 2 ^ 51
-    below f r h k e = omega arith
-
-    size : (f r : ℕ) → f < 2 ^ 51 → r ≡ 2 ^ 51 - f → 2 ^ 51 - r ≡ f
-    size f r k e = omega arith
-offset-value d false f r e some small R rest =
-    subst (λ (x : ℕ). HasValue d false (x * 2 ^ (e - 1)) (2 ^ 1074)) (size f r R) (rest .plus (above f r R))
-  where
-    above : (f r : ℕ) → r ≡ 2 ^ 51 + f → 2 ^ 51 ≤ r
-    above f r e = omega arith
-
-    size : (f r : ℕ) → r ≡ 2 ^ 51 + f → r - 2 ^ 51 ≡ f
-    size f r e = omega arith
-
-pub offset-lt : (n : Bool) (f r : ℕ) → f < 2 ^ 51 → r ≡ cond n (2 ^ 51 - f) (2 ^ 51 + f) → r < 2 ^ 52
-offset-lt true f r h e = omega arith
-offset-lt false f r h e = omega arith
-
 -- ---- the law
 
 module _ (x y z : Float) (FX : T (fits binary64 x)) (FY : T (fits binary64 y)) (FZ : T (fits binary64 z)) (ex ey ez u v : ℕ)
@@ -144,60 +119,34 @@ module _ (x y z : Float) (FX : T (fits binary64 x)) (FY : T (fits binary64 y)) (
   value-z : HasValue z (signOf z) (w * 2 ^ (ez - 1)) (2 ^ 1074)
   value-z = normal-value z ez w FZ EZ (some-z ex ey ez (ok .low-x) (ok .low-y) (ok .above)) (ok .finite-z) refl
 
-  shifted : (a p q r s t : ℕ) → p + q ≡ r + s + t → a * 2 ^ p * 2 ^ q ≡ a * 2 ^ r * 2 ^ s * 2 ^ t
-  shifted a p q r s t e =
-      mul-assoc a (2 ^ p) (2 ^ q)
-      ∙ ap (λ (x : ℕ). a * x) (sym (pow-add 2 p q) ∙ ap (λ (x : ℕ). 2 ^ x) e ∙ pow-add 2 (r + s) t ∙ ap (λ (x : ℕ). x * 2 ^ t) (pow-add 2 r s))
-      ∙ sym (mul-assoc a (2 ^ r * 2 ^ s) (2 ^ t))
-      ∙ ap (λ (x : ℕ). x * 2 ^ t) (sym (mul-assoc a (2 ^ r) (2 ^ s)))
-
-  product-units : u * 2 ^ (ex - 1) * (v * 2 ^ (ey - 1)) ≡ u * v * 2 ^ b
-  product-units =
-      sort u v (2 ^ (ex - 1)) (2 ^ (ey - 1)) ∙ ap (λ (x : ℕ). u * v * x)
-      (sym (pow-add 2 (ex - 1) (ey - 1)) ∙ ap (λ (x : ℕ). 2 ^ x) (both ex ey (ok .low-x) (ok .low-y)))
-    where
-      sort : (u v a b : ℕ) → u * a * (v * b) ≡ u * v * (a * b)
-      sort u v a b = simp (mul-assoc, mul-comm, mul-left-comm)
-
-      both : (x y : ℕ) → 768 ≤ x → 768 ≤ y → x - 1 + (y - 1) ≡ x + y - 2
-      both x y h k = omega arith
+  p-units : u * 2 ^ (ex - 1) * (v * 2 ^ (ey - 1)) ≡ u * v * 2 ^ b
+  p-units = product-units u v ex ey (some ex (ok .low-x)) (some ey (ok .low-y))
 
   z-units : w * 2 ^ (ez - 1) * 2 ^ 1074 ≡ w * 2 ^ i * 2 ^ 55 * 2 ^ b
-  z-units = shifted w (ez - 1) 1074 i 55 b (places ex ey ez (ok .low-x) (ok .low-y) (ok .above))
+  z-units =
+      units-shift w (ez - 1) 1074 (i + 55) b (places ex ey ez (ok .low-x) (ok .low-y) (ok .above))
+      ∙ ap (λ (q : ℕ). q * 2 ^ b) (ap (λ (q : ℕ). w * q) (pow-add 2 i 55) ∙ sym (mul-assoc w (2 ^ i) (2 ^ 55)))
     where
       places : (x y z : ℕ) → 768 ≤ x → 768 ≤ y → x + y ≤ z + 1011 → z - 1 + 1074 ≡ z + 1020 - (x + y) + 55 + (x + y - 2)
       places x y z h k l = omega arith
 
   cut-units : (f : ℕ) → f * 2 ^ (ex + ey - 1020 - 1) * 2 ^ 1074 ≡ f * 2 ^ 55 * 2 ^ b
-  cut-units f =
-      mul-assoc f (2 ^ (ex + ey - 1020 - 1)) (2 ^ 1074)
-      ∙ ap (λ (x : ℕ). f * x) (sym (pow-add 2 (ex + ey - 1020 - 1) 1074) ∙ ap (λ (x : ℕ). 2 ^ x) (places ex ey (ok .low-x) (ok .low-y)) ∙ pow-add 2 55 b)
-      ∙ sym (mul-assoc f (2 ^ 55) (2 ^ b))
+  cut-units f = units-shift f (ex + ey - 1020 - 1) 1074 55 b (places ex ey (ok .low-x) (ok .low-y))
     where
       places : (x y : ℕ) → 768 ≤ x → 768 ≤ y → x + y - 1020 - 1 + 1074 ≡ 55 + (x + y - 2)
       places x y h k = omega arith
 
-  nine : (x y z : ℕ) → x + y ≤ z + 1011 → 9 ≤ z + 1020 - (x + y)
-  nine x y z l = omega arith
-
   z-even : w * 2 ^ i % 2 ≡ 0
-  z-even =
-      ap (λ (q : ℕ). w * 2 ^ q % 2) (one-more i (nine ex ey ez (ok .above)))
-      ∙ ap (λ (q : ℕ). q % 2) (ap (λ (q : ℕ). w * q) (pow-add 2 (i - 1) 1) ∙ sym (mul-assoc w (2 ^ (i - 1)) 2))
-      ∙ mul-mod-left (w * 2 ^ (i - 1)) 2
+  z-even = shift-even w i (one-place ex ey ez (ok .above))
     where
-      one-more : (i : ℕ) → 9 ≤ i → i ≡ i - 1 + 1
-      one-more i h = omega arith
-
-  digits-ge : (b d : ℕ) → d ≡ 2 ^ 52 + b % 2 ^ 52 → 2 ^ 52 ≤ d
-  digits-ge b d e = omega arith
+      one-place : (x y z : ℕ) → x + y ≤ z + 1011 → 1 ≤ z + 1020 - (x + y)
+      one-place x y z l = omega arith
 
   z-big : 2 ^ 61 ≤ w * 2 ^ i
-  z-big = le-trans (pow-mono (more i (nine ex ey ez (ok .above))))
-      (le-trans (le-of-eq (pow-add 2 52 i)) (mul-le-mul-right (2 ^ i) (digits-ge (toBits binary64 z) w refl)))
+  z-big = shift-ge w i 61 (digits-ge (toBits binary64 z) w refl) (room ex ey ez (ok .above))
     where
-      more : (i : ℕ) → 9 ≤ i → 61 ≤ 52 + i
-      more i h = omega arith
+      room : (x y z : ℕ) → x + y ≤ z + 1011 → 61 ≤ 52 + (z + 1020 - (x + y))
+      room x y z l = omega arith
 
   -- the product has digits above the cut
   pub cut-some : (f : ℕ) → Jam (u * v) (2 ^ 55) f → 0 < f
@@ -210,21 +159,22 @@ module _ (x y z : Float) (FX : T (fits binary64 x)) (FY : T (fits binary64 y)) (
       go : (f : ℕ) → 2 ^ 104 < suc f * 2 ^ 55 → 0 < f
       go f h = omega arith
 
-  pub far-law : (f r : ℕ) (d : Float) → f < 2 ^ 51 → Jam (u * v) (2 ^ 55) f → r ≡ cond (unlike (signOf x) (signOf y)) (2 ^ 51 - f) (2 ^ 51 + f)
-      → Rest d r (ex + ey - 1020)
-      → add binary64 z d ≡ fma x y z
-  far-law f r d F j R rest =
-      let n = unlike (signOf x) (signOf y) in
+  pub far-law : (n : Bool) (f : ℕ) (d : Float) → n ≡ unlike (signOf x) (signOf y) → Jam (u * v) (2 ^ 55) f → f < 2 ^ 51
+      → Rest n d (2 ^ 51 + f) (ex + ey - 1020) → add binary64 z d ≡ fma x y z
+  far-law n f d N j F rest =
       let den₂ = 2 ^ (1074 + 1074) in
-      let value-d : HasValue d n (f * 2 ^ (ex + ey - 1020 - 1)) (2 ^ 1074) = offset-value d n f r (ex + ey - 1020) (cut-some f j) F R rest in
-      add-values z d (signOf z) n (w * 2 ^ (ez - 1)) (f * 2 ^ (ex + ey - 1020 - 1)) (2 ^ 1074) (pow-pos 1074) value-z value-d
-      ∙ sum-same binary64 (signOf z) n (w * 2 ^ (ez - 1)) (f * 2 ^ (ex + ey - 1020 - 1)) (2 ^ 1074) (w * 2 ^ i * 2 ^ 55 * 2 ^ b) (f * 2 ^ 55 * 2 ^ b) den₂
-      (pow-pos 1074) (pow-pos (1074 + 1074)) (wider (w * 2 ^ (ez - 1)) (w * 2 ^ i * 2 ^ 55 * 2 ^ b) z-units)
-      (wider (f * 2 ^ (ex + ey - 1020 - 1)) (f * 2 ^ 55 * 2 ^ b) (cut-units f))
+      let value-d : HasValue d n (f * 2 ^ (ex + ey - 1020 - 1)) (2 ^ 1074) =
+      subst (λ (q : ℕ). HasValue d n (q * 2 ^ (ex + ey - 1020 - 1)) (2 ^ 1074)) (size f) (rest .plus (above f (cut-some f j))) in
+      add-units z d (signOf z) n (w * 2 ^ (ez - 1)) (f * 2 ^ (ex + ey - 1020 - 1)) (w * 2 ^ i * 2 ^ 55 * 2 ^ b) (f * 2 ^ 55 * 2 ^ b) value-z value-d z-units
+      (cut-units f)
       ∙ sym (far-sum (w * 2 ^ i) (u * v) f b z-even z-big F (product-lt u v (digits-lt (toBits binary64 x) u U) (digits-lt (toBits binary64 y) v Y)) j n (signOf z))
-      ∙ ap (λ (q : ℕ). sum binary64 n q (signOf z) (w * 2 ^ i * 2 ^ 55 * 2 ^ b) den₂) (sym product-units)
+      ∙ ap (λ (q : ℕ). sum binary64 n q (signOf z) (w * 2 ^ i * 2 ^ 55 * 2 ^ b) den₂) (sym p-units)
       ∙ ap (λ (q : ℕ). sum binary64 n (u * 2 ^ (ex - 1) * (v * 2 ^ (ey - 1))) (signOf z) q den₂) (sym z-units)
+      ∙ ap (λ (q : Bool). sum binary64 q (u * 2 ^ (ex - 1) * (v * 2 ^ (ey - 1))) (signOf z) (w * 2 ^ (ez - 1) * 2 ^ 1074) den₂) N
       ∙ fma-values x y z (signOf x) (signOf y) (signOf z) (u * 2 ^ (ex - 1)) (v * 2 ^ (ey - 1)) (w * 2 ^ (ez - 1)) value-x value-y value-z
     where
-      wider : (a c : ℕ) → a * 2 ^ 1074 ≡ c → a * 2 ^ (1074 + 1074) ≡ c * 2 ^ 1074
-      wider a c e = ap (λ (q : ℕ). a * q) (pow-add 2 1074 1074) ∙ sym (mul-assoc a (2 ^ 1074) (2 ^ 1074)) ∙ ap (λ (q : ℕ). q * 2 ^ 1074) e
+      above : (f : ℕ) → 0 < f → 2 ^ 51 < 2 ^ 51 + f
+      above f h = omega arith
+
+      size : (f : ℕ) → 2 ^ 51 + f - 2 ^ 51 ≡ f
+      size f = omega arith

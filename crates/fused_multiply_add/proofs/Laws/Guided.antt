@@ -4,7 +4,7 @@ use mathlib.Core.Path.{_≡_, refl, sym, ap, _∙_, subst}
 use mathlib.Core.Logic.{inr}
 use mathlib.Core.Bool.{Bool, true, false, not, cond, _&&_}
 use Prim.Native.Nat.{ℕ, zero, suc, _+_, _-_, _*_, _/_, _%_, _^_, _≤_, _<_}
-use native.Mathlib.Nat.{le-trans, le-of-eq, le-of-lt, lt-of-lt-of-le, lt-of-le-of-lt, lt-of-not-le, lt-irrefl, lt-of-mul-lt-mul-right, le-add-right, div-eq-of-lt, mul-comm, mul-assoc, mul-left-comm, mul-right-comm, add-mul, zero-add, zero-mul, zero-lt-suc, mod-lt, div-add-mod', mul-le-mul-right, mul-lt-mul-of-pos-right, min-eq-left, div-lt-iff-lt-mul, le-div-iff-mul-le}
+use native.Mathlib.Nat.{le-trans, le-of-eq, le-of-lt, lt-of-lt-of-le, lt-of-le-of-lt, lt-of-not-le, lt-irrefl, lt-of-mul-lt-mul-right, le-add-right, div-eq-of-lt, mul-assoc, mul-left-comm, mul-right-comm, add-mul, zero-add, zero-mul, zero-lt-suc, mod-lt, div-add-mod', mul-le-mul-right, mul-lt-mul-of-pos-right, min-eq-left, div-lt-iff-lt-mul, le-div-iff-mul-le, mul-mod-left}
 use native.Mathlib.Omega.{arith}
 use lib.Dec.{T, leb}
 use lib.Pow.{pow-add, pow-pos, pow-mono}
@@ -175,6 +175,43 @@ mag-is a e E h = ap (λ (y : ℕ). y * 2 ^ (a / 2 ^ 52 - 1)) (sym (digits-high a
     least : (a e : ℕ) → a / 2 ^ 52 ≡ e → 1 ≤ e → 2 ^ 52 ≤ a
     least a e E h = omega arith
 
+-- ---- digits and their places
+
+pub digits-ge : (b u : ℕ) → u ≡ 2 ^ 52 + b % 2 ^ 52 → 2 ^ 52 ≤ u
+digits-ge b u e = omega arith
+
+pub digits-lt : (b u : ℕ) → u ≡ 2 ^ 52 + b % 2 ^ 52 → u < 2 ^ 53
+digits-lt b u e = omega arith
+
+-- in other units
+pub units-shift : (a p q r s : ℕ) → p + q ≡ r + s → a * 2 ^ p * 2 ^ q ≡ a * 2 ^ r * 2 ^ s
+units-shift a p q r s e =
+    mul-assoc a (2 ^ p) (2 ^ q)
+    ∙ ap (λ (y : ℕ). a * y) (sym (pow-add 2 p q) ∙ ap (λ (y : ℕ). 2 ^ y) e ∙ pow-add 2 r s)
+    ∙ sym (mul-assoc a (2 ^ r) (2 ^ s))
+
+pub product-units : (u v e d : ℕ) → 1 ≤ e → 1 ≤ d → u * 2 ^ (e - 1) * (v * 2 ^ (d - 1)) ≡ u * v * 2 ^ (e + d - 2)
+product-units u v e d h k =
+    sort u v (2 ^ (e - 1)) (2 ^ (d - 1)) ∙ ap (λ (x : ℕ). u * v * x) (sym (pow-add 2 (e - 1) (d - 1)) ∙ ap (λ (x : ℕ). 2 ^ x) (both e d h k))
+  where
+    sort : (u v a b : ℕ) → u * a * (v * b) ≡ u * v * (a * b)
+    sort u v a b = simp (mul-assoc, mul-left-comm)
+
+    both : (e d : ℕ) → 1 ≤ e → 1 ≤ d → e - 1 + (d - 1) ≡ e + d - 2
+    both e d h k = omega arith
+
+pub shift-even : (a i : ℕ) → 1 ≤ i → a * 2 ^ i % 2 ≡ 0
+shift-even a i h =
+    ap (λ (q : ℕ). a * 2 ^ q % 2) (one-more i h)
+    ∙ ap (λ (q : ℕ). q % 2) (ap (λ (q : ℕ). a * q) (pow-add 2 (i - 1) 1) ∙ sym (mul-assoc a (2 ^ (i - 1)) 2))
+    ∙ mul-mod-left (a * 2 ^ (i - 1)) 2
+  where
+    one-more : (i : ℕ) → 1 ≤ i → i ≡ i - 1 + 1
+    one-more i h = omega arith
+
+pub shift-ge : (a i j : ℕ) → 2 ^ 52 ≤ a → j ≤ 52 + i → 2 ^ j ≤ a * 2 ^ i
+shift-ge a i j h k = le-trans (pow-mono k) (le-trans (le-of-eq (pow-add 2 52 i)) (mul-le-mul-right (2 ^ i) h))
+
 -- ---- what `guided_sum` computes
 
 pub product-lt : (u v : ℕ) → u < 2 ^ 53 → v < 2 ^ 53 → u * v < 2 ^ 106
@@ -307,14 +344,11 @@ bits-law nx ny nz nt np cp cz bx by bz ex ey ez et k s u v w sig r X Y Z T K S o
     subst (λ (c : Bool). Exact (unlike np nt) (u * v) c (w * 2 ^ k) s sig) CZ (subst (λ (c : Bool). Exact c (u * v) cz (w * 2 ^ k) s sig) CP g) in
     let b = ex + ey - 2 in
     let p-is : u * v * 2 ^ b ≡ mag (bx % 2 ^ 63) * mag (by % 2 ^ 63) =
-    ap (λ (x : ℕ). u * v * 2 ^ x) (split ex ey (ok .low-x) (ok .low-y)) ∙ ap (λ (x : ℕ). u * v * x) (pow-add 2 (ex - 1) (ey - 1))
-    ∙ sort u v (2 ^ (ex - 1)) (2 ^ (ey - 1))
+    sym (product-units u v ex ey (some ex (ok .low-x)) (some ey (ok .low-y)))
     ∙ ap (λ (x : ℕ). x * (v * 2 ^ (ey - 1))) (digits-of bx ex u X (some ex (ok .low-x)) U)
     ∙ ap (λ (x : ℕ). mag (bx % 2 ^ 63) * x) (digits-of by ey v Y (some ey (ok .low-y)) W') in
     let z-is : w * 2 ^ k * 2 ^ b ≡ mag (bz % 2 ^ 63) * 2 ^ 1074 =
-    mul-assoc w (2 ^ k) (2 ^ b) ∙ ap (λ (x : ℕ). w * x)
-    (sym (pow-add 2 k b) ∙ ap (λ (x : ℕ). 2 ^ x) (over k ex ey ez k-is (ok .low-x) (ok .low-y)) ∙ pow-add 2 (ez - 1) 1074)
-    ∙ sym (mul-assoc w (2 ^ (ez - 1)) (2 ^ 1074))
+    units-shift w k b (ez - 1) 1074 (over k ex ey ez k-is (ok .low-x) (ok .low-y))
     ∙ ap (λ (x : ℕ). x * 2 ^ 1074) (digits-of bz ez w Z (some-z k ex ey ez k-is (ok .low-x) (ok .low-y)) W) in
     record {
       plain-x = plain (bx % 2 ^ 63) ex X (below ex (ok .high-x));
@@ -331,12 +365,6 @@ bits-law nx ny nz nt np cp cz bx by bz ex ey ez et k s u v w sig r X Y Z T K S o
           (mag (bz % 2 ^ 63) * 2 ^ 1074) (2 ^ (1074 + 1074)))) NZ;
     }
   where
-    split : (x y : ℕ) → 768 ≤ x → 768 ≤ y → x + y - 2 ≡ x - 1 + (y - 1)
-    split x y a b = omega arith
-
-    sort : (u v a b : ℕ) → u * v * (a * b) ≡ u * a * (v * b)
-    sort u v a b = simp (mul-assoc, mul-comm, mul-left-comm)
-
     some : (x : ℕ) → 768 ≤ x → 1 ≤ x
     some x h = omega arith
 
@@ -457,9 +485,6 @@ found-fma x y z r X Y Z f =
 pub turn-yes : (b : Bool) (a : ℕ) → b ≡ true → 2 ^ 64 - 1 - a ≡ cond b (2 ^ 64 - 1 - a) a
 turn-yes true a e = refl
 turn-yes false a e = absurd (mathlib.Core.Bool.false≢true e)
-
-pub digits-lt : (b u : ℕ) → u ≡ 2 ^ 52 + b % 2 ^ 52 → u < 2 ^ 53
-digits-lt b u e = omega arith
 
 module _ (ex ey k s et bt : ℕ) (ok : Usable ex ey k s) (T : et ≡ bt % 2 ^ 63 / 2 ^ 52) (S : (s + (et + 1011)) % 2 ^ 64 ≡ ex + ey) where
   exponent : s + (et + 1011) ≡ ex + ey

@@ -18,8 +18,8 @@ use Rattle.fused_multiply_add.proofs.Laws.Value.{fma-values}
 abbrev pub den : ℕ
 den = 2 ^ (1074 + 1074)
 
--- r is the exact sum of ±a and ±b, over 2 ^ 2148, rounded once
-pub record RoundedOnce (r : Float) (s : Bool) (a : ℕ) (t : Bool) (b : ℕ) : Type 0 where
+-- r is the exact sum of ±a and ±b, over c, rounded once
+pub record RoundedOnce (r : Float) (s : Bool) (a : ℕ) (t : Bool) (b c : ℕ) : Type 0 where
   -- the exact sum's sign and its size
   pub negative : Bool
   pub size : ℕ
@@ -27,12 +27,12 @@ pub record RoundedOnce (r : Float) (s : Bool) (a : ℕ) (t : Bool) (b : ℕ) : T
   pub exact : cond negative 0 size + (cond s a 0 + cond t b 0) ≡ cond negative size 0 + (cond s 0 a + cond t 0 b)
   -- an exact zero is −0 where both terms are negative, and +0 otherwise
   pub zero-sign : size ≡ 0 → negative ≡ (s && t)
-  pub rounded : r ≡ round binary64 negative size den
+  pub rounded : r ≡ round binary64 negative size c
 
 -- the two terms differ in sign: the first is negative, or the second
-unlike-terms : (s t : Bool) (a b : ℕ) → Bool·beq s t ≡ false
-    → RoundedOnce (cond (ltb a b) (round binary64 t (b - a) den) (round binary64 (s && ltb b a) (a - b) den)) s a t b
-unlike-terms s t a b differ = go s t (ltb a b) (ltb b a) differ (ltb→lt a b) (nltb→le a b) (ltb→lt b a) (nltb→le b a)
+unlike-terms : (s t : Bool) (a b c : ℕ) → Bool·beq s t ≡ false
+    → RoundedOnce (cond (ltb a b) (round binary64 t (b - a) c) (round binary64 (s && ltb b a) (a - b) c)) s a t b c
+unlike-terms s t a b c differ = go s t (ltb a b) (ltb b a) differ (ltb→lt a b) (nltb→le a b) (ltb→lt b a) (nltb→le b a)
   where
     clash : (a b : ℕ) → a < b → b - a ≡ 0 → ⊥
     clash a b h e = omega arith
@@ -53,7 +53,7 @@ unlike-terms s t a b differ = go s t (ltb a b) (ltb b a) differ (ltb→lt a b) (
     level a b h k = omega arith
 
     go : (s t x y : Bool) → Bool·beq s t ≡ false → (T x → a < b) → (T (not x) → b ≤ a) → (T y → b < a) → (T (not y) → a ≤ b)
-        → RoundedOnce (cond x (round binary64 t (b - a) den) (round binary64 (s && y) (a - b) den)) s a t b
+        → RoundedOnce (cond x (round binary64 t (b - a) c) (round binary64 (s && y) (a - b) c)) s a t b c
     go true true x y e f g h k = absurd (mathlib.Core.Bool.true≢false e)
     go false false x y e f g h k = absurd (mathlib.Core.Bool.true≢false e)
     go true false true y e f g h k = record { negative = false; size = b - a; exact = up a b (f tt); zero-sign = λ _. refl; rounded = refl }
@@ -64,25 +64,36 @@ unlike-terms s t a b differ = go s t (ltb a b) (ltb b a) differ (ltb→lt a b) (
         record { negative = true; size = b - a; exact = up-minus a b (f tt); zero-sign = λ z. absurd (clash a b (f tt) z); rounded = refl }
     go false true false y e f g h k = record { negative = false; size = a - b; exact = down a b (g tt); zero-sign = λ _. refl; rounded = refl }
 
-pub sum-once : (s t : Bool) (a b : ℕ) → RoundedOnce (sum binary64 s a t b den) s a t b
+pub sum-once : (s t : Bool) (a b c : ℕ) → RoundedOnce (sum binary64 s a t b c) s a t b c
 unfolding sum
-sum-once true true a b = record { negative = true; size = a + b; exact = swap (a + b); zero-sign = λ _. refl; rounded = refl }
+sum-once true true a b c = record { negative = true; size = a + b; exact = swap (a + b); zero-sign = λ _. refl; rounded = refl }
   where
     swap : (x : ℕ) → 0 + x ≡ x + (0 + 0)
     swap x = omega arith
-sum-once false false a b = record { negative = false; size = a + b; exact = swap (a + b); zero-sign = λ _. refl; rounded = refl }
+sum-once false false a b c = record { negative = false; size = a + b; exact = swap (a + b); zero-sign = λ _. refl; rounded = refl }
   where
     swap : (x : ℕ) → x + (0 + 0) ≡ 0 + x
     swap x = omega arith
-sum-once true false a b = unlike-terms true false a b refl
-sum-once false true a b = unlike-terms false true a b refl
+sum-once true false a b c = unlike-terms true false a b c refl
+sum-once false true a b c = unlike-terms false true a b c refl
+
+-- a sum of two terms that are not negative has no minus sign
+pub plus-terms : (r : Float) (a b c : ℕ) (o : RoundedOnce r false a false b c) → o .negative ≡ false
+plus-terms r a b c o = go (o .negative) (o .exact) (o .zero-sign)
+  where
+    none : (v a b : ℕ) → 0 + (0 + 0) ≡ v + (a + b) → v ≡ 0
+    none v a b e = omega arith
+
+    go : (n : Bool) → cond n 0 (o .size) + (0 + 0) ≡ cond n (o .size) 0 + (a + b) → (o .size ≡ 0 → n ≡ false) → n ≡ false
+    go true e z = z (none (o .size) a b e)
+    go false e z = refl
 
 -- x is ±n, y is ±k and z is ±p of the smallest values: x × y + z is ±n * k ± p * 2 ^ 1074, over 2 ^ 2148
 pub once : (x y z : Float) (s t u : Bool) (n k p : ℕ) → HasValue x s n (2 ^ 1074) → HasValue y t k (2 ^ 1074) → HasValue z u p (2 ^ 1074)
-    → RoundedOnce (fma x y z) (unlike s t) (n * k) u (p * 2 ^ 1074)
+    → RoundedOnce (fma x y z) (unlike s t) (n * k) u (p * 2 ^ 1074) den
 once x y z s t u n k p X Y Z =
-    subst (λ (r : Float). RoundedOnce r (unlike s t) (n * k) u (p * 2 ^ 1074)) (fma-values x y z s t u n k p X Y Z)
-    (sum-once (unlike s t) u (n * k) (p * 2 ^ 1074))
+    subst (λ (r : Float). RoundedOnce r (unlike s t) (n * k) u (p * 2 ^ 1074) den) (fma-values x y z s t u n k p X Y Z)
+    (sum-once (unlike s t) u (n * k) (p * 2 ^ 1074) den)
 
 -- r is the value of binary64 nearest to the number of this sign and size over 2 ^ 2148
 pub record NearestValue (r : Float) (negative : Bool) (size : ℕ) : Type 0 where
@@ -99,7 +110,7 @@ pub record NearestValue (r : Float) (negative : Bool) (size : ℕ) : Type 0 wher
   -- no value m * 2 ^ j, of 53 digits or fewer, is nearer
   pub best : (m j : ℕ) → m < 2 ^ 53 → gap (units * den) (size * 2 ^ 1074) ≤ gap (m * 2 ^ j * den) (size * 2 ^ 1074)
 
-pub once-nearest : (r : Float) (s t : Bool) (a b : ℕ) (o : RoundedOnce r s a t b) → T (finite r) → NearestValue r (o .negative) (o .size)
+pub once-nearest : (r : Float) (s t : Bool) (a b : ℕ) (o : RoundedOnce r s a t b den) → T (finite r) → NearestValue r (o .negative) (o .size)
 once-nearest r s t a b o h =
     let v = o .size in
     let e = o .rounded in
@@ -116,5 +127,5 @@ once-nearest r s t a b o h =
     }
 
 -- what would be rounded to 2 ^ 1024 or more is an infinity of the exact sum's sign
-pub once-infinite : (r : Float) (s t : Bool) (a b : ℕ) (o : RoundedOnce r s a t b) → overflow binary64 ≤ grid binary64 (o .size) den → r ≡ inf (o .negative)
+pub once-infinite : (r : Float) (s t : Bool) (a b : ℕ) (o : RoundedOnce r s a t b den) → overflow binary64 ≤ grid binary64 (o .size) den → r ≡ inf (o .negative)
 once-infinite r s t a b o h = o .rounded ∙ round-infinite binary64 (o .negative) (o .size) den h

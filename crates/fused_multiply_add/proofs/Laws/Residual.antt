@@ -1,92 +1,136 @@
--- The rest of x * x + z over the hardware's sum t, as one word and as a float, and t plus that float: where the rest was cut with a sticky bit, rounding
+-- The rest of x * y + z over the hardware's sum t, as one word and as a float, and t plus that float: where the rest was cut with a sticky bit, rounding
 -- sees no difference (`jam-round`).
 use mathlib.Core.Path.{_≡_, refl, sym, ap, _∙_, subst}
 use mathlib.Core.Logic.{_⊎_, inl, inr}
-use mathlib.Core.Bool.{Bool, true, false, not}
-use Prim.Native.Nat.{ℕ, _+_, _-_, _*_, _/_, _%_, _^_, _≤_, _<_}
-use native.Mathlib.Nat.{le-trans, lt-of-lt-of-le, mul-assoc, add-mul, mul-pos, mul-le-mul-right, mul-lt-mul-of-pos-right, eq-zero-or-pos}
+use mathlib.Core.Bool.{Bool, true, false, not, cond}
+use Prim.Native.Nat.{ℕ, zero, suc, _+_, _-_, _*_, _/_, _%_, _^_, _≤_, _<_}
+use native.Mathlib.Nat.{le-trans, lt-of-lt-of-le, add-mul, zero-mul, mul-lt-mul-of-pos-right, eq-zero-or-pos, eq-or-lt-of-le}
 use native.Mathlib.Omega.{arith}
-use lib.Dec.{T, ltb}
+use borrow.Author.Tests.{lt-leb}
+use lib.Dec.{T, leb, le→leb}
 use lib.Arith.{le→nltb}
 use lib.Pow.{pow-add, pow-pos, pow-mono, shl-lt}
-use lib.Ieee.{Float, binary64, low, size, round, sum, add, sub, nanBits, ofBits}
-use lib.Ieee.Bits.{cond-no}
+use lib.Ieee.{Float, binary64, low, size, unlike, round, sum, add, sub, nanBits, ofFields, ofBits}
+use lib.Ieee.Bits.{is-true, nanBits-above}
 use lib.Ieee.Digits.{size-lt, size-reaches}
 use lib.Ieee.Exact.{HasValue, round-exact}
-use lib.Ieee.Scale.{round-same}
-use Rattle.binary64.proofs.Pattern.{digits-high, bits-value, no-nan}
+use Rattle.binary64.proofs.Pattern.{fields-value}
 use Rattle.fused_multiply_add.specs.Jam.{Jam}
-use Rattle.fused_multiply_add.specs.Guided.{Rest}
-use Rattle.fused_multiply_add.proofs.Laws.Jam.{jam-exact, jam-scale, sub-mul}
+use Rattle.fused_multiply_add.specs.Guided.{Rest, Fits, added, taken}
+use Rattle.fused_multiply_add.proofs.Laws.Jam.{jam-exact, jam-scale}
 use Rattle.fused_multiply_add.proofs.Laws.Round.{round-jam}
-use Rattle.fused_multiply_add.proofs.Laws.Meaning.{sum-less}
-use Rattle.fused_multiply_add.proofs.Laws.Value.{add-values, sub-values}
-use Rattle.fused_multiply_add.proofs.Laws.Error.{add-round}
+use Rattle.fused_multiply_add.proofs.Laws.Meaning.{sum-less, sum-more, sum-none}
+use Rattle.fused_multiply_add.proofs.Laws.Value.{add-units, sub-values}
+use Rattle.fused_multiply_add.proofs.Laws.Guided.{sum-is, units-shift}
 
 -- ---- the rest as one word
 
-pub rest-law : (a z t p y lo c d r : ℕ) → p ≡ a % 2 ^ 64 → y ≡ z % 2 ^ 64 → lo ≡ (p + y) % 2 ^ 64 → c ≡ t % 2 ^ 64 → (d + c) % 2 ^ 64 ≡ lo
-    → r ≡ (d + 2 ^ 63) % 2 ^ 64
-    → t < a + z + 2 ^ 63 → a + z < t + 2 ^ 63 → r + t ≡ a + z + 2 ^ 63
-rest-law a z t p y lo c d r P Y LO C D R h k =
-    window (r + t) (a + z + 2 ^ 63) t (third a z t d r (second a z t c d lo (first a z p y lo P Y LO) C D) R) (low r t) (high r t d R) (lower a z t h)
-    (upper a z t k)
+-- a word of -a or a, where its argument was the low word of a
+turned : (c : Bool) (a p q : ℕ) → p ≡ a % 2 ^ 64 → (q + cond c p 0) % 2 ^ 64 ≡ cond c 0 p → (q + cond c a 0) % 2 ^ 64 ≡ cond c 0 a % 2 ^ 64
+turned true a p q P Q = omega arith
+turned false a p q P Q = omega arith
+
+words-add : (a b c d : ℕ) → a % 2 ^ 64 ≡ b % 2 ^ 64 → c % 2 ^ 64 ≡ d % 2 ^ 64 → (a + c) % 2 ^ 64 ≡ (b + d) % 2 ^ 64
+words-add a b c d h k = omega arith
+
+-- of words with p = a - b and y = z - e: p + y, that less t, and 2 ^ 63 more
+first-word : (b a e z p y lo : ℕ) → (p + b) % 2 ^ 64 ≡ a % 2 ^ 64 → (y + e) % 2 ^ 64 ≡ z % 2 ^ 64 → lo ≡ (p + y) % 2 ^ 64
+    → (lo + (b + e)) % 2 ^ 64 ≡ (a + z) % 2 ^ 64
+first-word b a e z p y lo P Y L = sort b e p y lo L ∙ words-add (p + b) a (y + e) z P Y
   where
-    first : (a z p y lo : ℕ) → p ≡ a % 2 ^ 64 → y ≡ z % 2 ^ 64 → lo ≡ (p + y) % 2 ^ 64 → lo ≡ (a + z) % 2 ^ 64
-    first a z p y lo P Y L = omega arith
+    sort : (b e p y lo : ℕ) → lo ≡ (p + y) % 2 ^ 64 → (lo + (b + e)) % 2 ^ 64 ≡ (p + b + (y + e)) % 2 ^ 64
+    sort b e p y lo h = omega arith
 
-    second : (a z t c d lo : ℕ) → lo ≡ (a + z) % 2 ^ 64 → c ≡ t % 2 ^ 64 → (d + c) % 2 ^ 64 ≡ lo → (d + t) % 2 ^ 64 ≡ (a + z) % 2 ^ 64
-    second a z t c d lo L C D = omega arith
+second-word : (b a t lo c d : ℕ) → (lo + b) % 2 ^ 64 ≡ a % 2 ^ 64 → c ≡ t % 2 ^ 64 → (d + c) % 2 ^ 64 ≡ lo → (d + (t + b)) % 2 ^ 64 ≡ a % 2 ^ 64
+second-word b a t lo c d L C D = sort b t lo c d C D ∙ L
+  where
+    sort : (b t lo c d : ℕ) → c ≡ t % 2 ^ 64 → (d + c) % 2 ^ 64 ≡ lo → (d + (t + b)) % 2 ^ 64 ≡ (lo + b) % 2 ^ 64
+    sort b t lo c d C D = omega arith
 
-    third : (a z t d r : ℕ) → (d + t) % 2 ^ 64 ≡ (a + z) % 2 ^ 64 → r ≡ (d + 2 ^ 63) % 2 ^ 64 → (r + t) % 2 ^ 64 ≡ (a + z + 2 ^ 63) % 2 ^ 64
-    third a z t d r D R = omega arith
+third-word : (m n d r : ℕ) → (d + m) % 2 ^ 64 ≡ n % 2 ^ 64 → r ≡ (d + 2 ^ 63) % 2 ^ 64 → (r + m) % 2 ^ 64 ≡ (n + 2 ^ 63) % 2 ^ 64
+third-word m n d r D R = omega arith
 
-    window : (x y t : ℕ) → x % 2 ^ 64 ≡ y % 2 ^ 64 → t ≤ x → x < t + 2 ^ 64 → t ≤ y → y < t + 2 ^ 64 → x ≡ y
-    window x y t e a b c d = omega arith
+window : (x y t : ℕ) → x % 2 ^ 64 ≡ y % 2 ^ 64 → t ≤ x → x < t + 2 ^ 64 → t ≤ y → y < t + 2 ^ 64 → x ≡ y
+window x y t e a b c d = omega arith
 
+-- p, y and c are the low words of a, z and t, and p′ and y′ those of ±a and ±z
+pub rest-law : (cp cz : Bool) (a z t p p′ y y′ lo c d r : ℕ) → p ≡ a % 2 ^ 64 → (p′ + cond cp p 0) % 2 ^ 64 ≡ cond cp 0 p
+    → y ≡ z % 2 ^ 64 → (y′ + cond cz y 0) % 2 ^ 64 ≡ cond cz 0 y → lo ≡ (p′ + y′) % 2 ^ 64 → c ≡ t % 2 ^ 64 → (d + c) % 2 ^ 64 ≡ lo
+    → r ≡ (d + 2 ^ 63) % 2 ^ 64 → Fits cp a cz z t → r + taken cp a cz z t ≡ added cp a cz z + 2 ^ 63
+rest-law cp cz a z t p p′ y y′ lo c d r P P′ Y Y′ LO C D R f =
+    let m = taken cp a cz z t in
+    let n = added cp a cz z in
+    window (r + m) (n + 2 ^ 63) m
+    (third-word m n d r
+    (second-word (cond cp a 0 + cond cz z 0) n t lo c d
+    (first-word (cond cp a 0) (cond cp 0 a) (cond cz z 0) (cond cz 0 z) p′ y′ lo (turned cp a p p′ P P′) (turned cz z y y′ Y Y′) LO) C D) R)
+    (low r m) (high r m d R) (lower m n (f .lower)) (upper m n (f .upper))
+  where
     low : (r t : ℕ) → t ≤ r + t
     low r t = omega arith
 
     high : (r t d : ℕ) → r ≡ (d + 2 ^ 63) % 2 ^ 64 → r + t < t + 2 ^ 64
     high r t d e = omega arith
 
-    lower : (a z t : ℕ) → t < a + z + 2 ^ 63 → t ≤ a + z + 2 ^ 63
-    lower a z t h = omega arith
+    lower : (t a : ℕ) → t < a + 2 ^ 63 → t ≤ a + 2 ^ 63
+    lower t a h = omega arith
 
-    upper : (a z t : ℕ) → a + z < t + 2 ^ 63 → a + z + 2 ^ 63 < t + 2 ^ 64
-    upper a z t h = omega arith
+    upper : (t a : ℕ) → a < t + 2 ^ 63 → a + 2 ^ 63 < t + 2 ^ 64
+    upper t a h = omega arith
 
 -- ---- the two floats that are taken from each other
 
-pub bits-val : (e f : ℕ) → f < 2 ^ 52 → 1 ≤ e → e < 2000 → HasValue (ofBits binary64 (e * 2 ^ 52 + f)) false ((2 ^ 52 + f) * 2 ^ (e - 1)) (2 ^ 1074)
-bits-val e f F E h =
-    let b = e * 2 ^ 52 + f in
-    subst (λ (k : ℕ). HasValue (ofBits binary64 b) false k (2 ^ 1074))
-    (ap (λ (k : ℕ). k * 2 ^ (b / 2 ^ 52 - 1)) (sym (digits-high b (least e f E)) ∙ ap (λ (k : ℕ). 2 ^ 52 + k) (low e f F))
-    ∙ ap (λ (k : ℕ). (2 ^ 52 + f) * 2 ^ (k - 1)) (high e f F))
-    (bits-value b (under e f F h))
+pattern : (s : Bool) (e f : ℕ) → f < 2 ^ 52 → e < 2000
+    → ofBits binary64 (cond s (2 ^ 63) 0 + e * 2 ^ 52 + f) ≡ ofFields binary64 s e f
+unfolding ofBits
+pattern s e f F E =
+    let b = cond s (2 ^ 63) 0 + e * 2 ^ 52 + f in
+    ap (λ (t : Bool). ofFields binary64 t (b % 2 ^ 63 / 2 ^ 52) (b % 2 ^ 52)) (sign s e f F E)
+    ∙ ap (λ (n : ℕ). ofFields binary64 s n (b % 2 ^ 52)) (high s e f F E)
+    ∙ ap (λ (n : ℕ). ofFields binary64 s e n) (low s e f F)
   where
-    least : (e f : ℕ) → 1 ≤ e → 2 ^ 52 ≤ e * 2 ^ 52 + f
-    least e f h = omega arith
+    above : (e f : ℕ) → 2 ^ 63 ≤ 2 ^ 63 + e * 2 ^ 52 + f
+    above e f = omega arith
 
-    low : (e f : ℕ) → f < 2 ^ 52 → (e * 2 ^ 52 + f) % 2 ^ 52 ≡ f
-    low e f h = omega arith
+    below : (e f : ℕ) → f < 2 ^ 52 → e < 2000 → 0 + e * 2 ^ 52 + f < 2 ^ 63
+    below e f F E = omega arith
 
-    high : (e f : ℕ) → f < 2 ^ 52 → (e * 2 ^ 52 + f) / 2 ^ 52 ≡ e
-    high e f h = omega arith
+    sign : (s : Bool) (e f : ℕ) → f < 2 ^ 52 → e < 2000 → leb (2 ^ 63) (cond s (2 ^ 63) 0 + e * 2 ^ 52 + f) ≡ s
+    sign true e f F E = is-true (leb (2 ^ 63) (2 ^ 63 + e * 2 ^ 52 + f)) (le→leb (2 ^ 63) (2 ^ 63 + e * 2 ^ 52 + f) (above e f))
+    sign false e f F E = lt-leb (2 ^ 63) (0 + e * 2 ^ 52 + f) (below e f F E)
 
-    under : (e f : ℕ) → f < 2 ^ 52 → e < 2000 → e * 2 ^ 52 + f < 0x7ff0_0000_0000_0000
-    under e f F h = omega arith
+    high : (s : Bool) (e f : ℕ) → f < 2 ^ 52 → e < 2000 → (cond s (2 ^ 63) 0 + e * 2 ^ 52 + f) % 2 ^ 63 / 2 ^ 52 ≡ e
+    high true e f F E = omega arith
+    high false e f F E = omega arith
 
-pub bits-number : (e f : ℕ) → f < 2 ^ 52 → e < 2000 → T (not (nanBits binary64 (e * 2 ^ 52 + f)))
-bits-number e f F h = no-nan (e * 2 ^ 52 + f) (under e f F h)
+    low : (s : Bool) (e f : ℕ) → f < 2 ^ 52 → (cond s (2 ^ 63) 0 + e * 2 ^ 52 + f) % 2 ^ 52 ≡ f
+    low true e f F = omega arith
+    low false e f F = omega arith
+
+bits-val : (s : Bool) (p e f : ℕ) → p ≡ cond s (2 ^ 63) 0 + e * 2 ^ 52 → f < 2 ^ 52 → 1 ≤ e → e < 2000
+    → HasValue (ofBits binary64 (p + f)) s ((2 ^ 52 + f) * 2 ^ (e - 1)) (2 ^ 1074)
+bits-val s p zero f P F some E = absurd (never some)
   where
-    under : (e f : ℕ) → f < 2 ^ 52 → e < 2000 → e * 2 ^ 52 + f ≤ 0x7ff0_0000_0000_0000
-    under e f F h = omega arith
+    never : 1 ≤ 0 → ⊥
+    never h = omega arith
+bits-val s p (suc e) f P F some E =
+    subst (λ (x : Float). HasValue x s ((2 ^ 52 + f) * 2 ^ (suc e - 1)) (2 ^ 1074))
+    (sym (ap (λ (b : ℕ). ofBits binary64 (b + f)) P ∙ pattern s (suc e) f F E)) (fields-value s (suc e) f (room (suc e) E))
+  where
+    room : (e : ℕ) → e < 2000 → e < 2047
+    room e h = omega arith
 
-sum-ge : (p q c : ℕ) → q ≤ p → sum binary64 false p true q c ≡ round binary64 false (p - q) c
-unfolding sum
-sum-ge p q c h = cond-no (ltb p q) (round binary64 true (q - p) c) (round binary64 false (p - q) c) (le→nltb p q h)
+pub bits-word : (s : Bool) (p e f : ℕ) → p ≡ cond s (2 ^ 63) 0 + e * 2 ^ 52 → f < 2 ^ 52 → e < 2000 → p + f ≤ 2 ^ 64 - 1
+bits-word true p e f P F h = omega arith
+bits-word false p e f P F h = omega arith
+
+pub bits-number : (s : Bool) (p e f : ℕ) → p ≡ cond s (2 ^ 63) 0 + e * 2 ^ 52 → f < 2 ^ 52 → e < 2000 → T (not (nanBits binary64 (p + f)))
+bits-number s p e f P F h =
+    subst (λ (b : Bool). T (not b)) (sym (nanBits-above binary64 (p + f))) (le→nltb 0x7ff0_0000_0000_0000 ((p + f) % 2 ^ 63) (under s p e f P F h))
+  where
+    under : (s : Bool) (p e f : ℕ) → p ≡ cond s (2 ^ 63) 0 + e * 2 ^ 52 → f < 2 ^ 52 → e < 2000 → (p + f) % 2 ^ 63 ≤ 0x7ff0_0000_0000_0000
+    under true p e f P F h = omega arith
+    under false p e f P F h = omega arith
 
 exact-round : (s : Bool) (d e : ℕ) → d < 2 ^ 52 → e < 2000 → HasValue (round binary64 s (d * 2 ^ (e - 1)) (2 ^ 1074)) s (d * 2 ^ (e - 1)) (2 ^ 1074)
 exact-round s d e D E =
@@ -99,35 +143,56 @@ exact-round s d e D E =
     room : (e : ℕ) → e < 2000 → 52 + (e - 1) ≤ 2098
     room e h = omega arith
 
-pub rest-val : (f e : ℕ) → f < 2 ^ 52 → 1 ≤ e → e < 2000 → Rest (sub binary64 (ofBits binary64 (e * 2 ^ 52 + f)) (ofBits binary64 (e * 2 ^ 52 + 2 ^ 51))) f e
-rest-val f e F E h =
-    let x = ofBits binary64 (e * 2 ^ 52 + f) in
-    let y = ofBits binary64 (e * 2 ^ 52 + 2 ^ 51) in
+-- a difference of two of one sign
+less-sum : (s : Bool) (n k c : ℕ) → n < k → sum binary64 s n (not s) k c ≡ round binary64 (not s) (k - n) c
+less-sum true n k c h = sum-less binary64 n k c true false h
+less-sum false n k c h = sum-less binary64 n k c false true h
+
+more-sum : (s : Bool) (n k c : ℕ) → k < n → sum binary64 s n (not s) k c ≡ round binary64 s (n - k) c
+more-sum true n k c h = sum-more binary64 n k c true false refl h
+more-sum false n k c h = sum-more binary64 n k c false true refl h
+
+none-sum : (s : Bool) (n k c : ℕ) → n ≡ k → sum binary64 s n (not s) k c ≡ round binary64 false 0 c
+none-sum true n k c h = sum-none binary64 n k c true false refl h
+none-sum false n k c h = sum-none binary64 n k c false true refl h
+
+pub rest-val : (s : Bool) (p f e : ℕ) → p ≡ cond s (2 ^ 63) 0 + e * 2 ^ 52 → f < 2 ^ 52 → 1 ≤ e → e < 2000
+    → Rest s (sub binary64 (ofBits binary64 (p + f)) (ofBits binary64 (p + 2 ^ 51))) f e
+rest-val s p f e P F E h =
+    let x = ofBits binary64 (p + f) in
+    let y = ofBits binary64 (p + 2 ^ 51) in
     let u = 2 ^ (e - 1) in
-    let s : sub binary64 x y ≡ sum binary64 false ((2 ^ 52 + f) * u) true ((2 ^ 52 + 2 ^ 51) * u) (2 ^ 1074) =
-    sub-values x y false false ((2 ^ 52 + f) * u) ((2 ^ 52 + 2 ^ 51) * u) (2 ^ 1074) (pow-pos 1074) (bits-val e f F E h)
-    (bits-val e (2 ^ 51) (half 0) E h) in
+    let a = (2 ^ 52 + f) * u in
+    let b = (2 ^ 52 + 2 ^ 51) * u in
+    let q : sub binary64 x y ≡ sum binary64 s a (not s) b (2 ^ 1074) =
+    sub-values x y s s a b (2 ^ 1074) (pow-pos 1074) (bits-val s p e f P F E h) (bits-val s p e (2 ^ 51) P (half 0) E h) in
     record {
-      plus = λ g. subst (λ (v : Float). HasValue v false ((f - 2 ^ 51) * u) (2 ^ 1074))
-          (sym (s ∙ sum-ge ((2 ^ 52 + f) * u) ((2 ^ 52 + 2 ^ 51) * u) (2 ^ 1074) (mul-le-mul-right u (above f g)) ∙ ap
-          (λ (n : ℕ). round binary64 false n (2 ^ 1074)) (gap (2 ^ 52 + f) (2 ^ 52 + 2 ^ 51) (f - 2 ^ 51) u (over f g))))
-          (exact-round false (f - 2 ^ 51) e (small f F) h);
-      minus = λ g. subst (λ (v : Float). HasValue v true ((2 ^ 51 - f) * u) (2 ^ 1074))
-          (sym (s ∙ sum-less binary64 ((2 ^ 52 + f) * u) ((2 ^ 52 + 2 ^ 51) * u) (2 ^ 1074) false true
-          (mul-lt-mul-of-pos-right (below f g) (pow-pos (e - 1))) ∙ ap (λ (n : ℕ). round binary64 true n (2 ^ 1074))
-          (gap (2 ^ 52 + 2 ^ 51) (2 ^ 52 + f) (2 ^ 51 - f) u (under f g)))) (exact-round true (2 ^ 51 - f) e (small₂ f) h);
+      plus = λ g. subst (λ (v : Float). HasValue v s ((f - 2 ^ 51) * u) (2 ^ 1074))
+          (sym (q ∙ more-sum s a b (2 ^ 1074) (mul-lt-mul-of-pos-right (above f g) (pow-pos (e - 1)))
+          ∙ ap (λ (n : ℕ). round binary64 s n (2 ^ 1074)) (gap (2 ^ 52 + f) (2 ^ 52 + 2 ^ 51) (f - 2 ^ 51) u (over f g))))
+          (exact-round s (f - 2 ^ 51) e (small f F) h);
+      none = λ g. subst (λ (v : Float). HasValue v false 0 (2 ^ 1074))
+          (sym (q ∙ none-sum s a b (2 ^ 1074) (ap (λ (n : ℕ). (2 ^ 52 + n) * u) g)))
+          (subst (λ (n : ℕ). HasValue (round binary64 false n (2 ^ 1074)) false n (2 ^ 1074)) (zero-mul u) (exact-round false 0 e (some 0) h));
+      minus = λ g. subst (λ (v : Float). HasValue v (not s) ((2 ^ 51 - f) * u) (2 ^ 1074))
+          (sym (q ∙ less-sum s a b (2 ^ 1074) (mul-lt-mul-of-pos-right (below f g) (pow-pos (e - 1)))
+          ∙ ap (λ (n : ℕ). round binary64 (not s) n (2 ^ 1074)) (gap (2 ^ 52 + 2 ^ 51) (2 ^ 52 + f) (2 ^ 51 - f) u (under f g))))
+          (exact-round (not s) (2 ^ 51 - f) e (small₂ f) h);
     }
   where
     half : (x : ℕ) → 2 ^ 51 < 2 ^ 52
     half x = omega arith
 
-    above : (f : ℕ) → 2 ^ 51 ≤ f → 2 ^ 52 + 2 ^ 51 ≤ 2 ^ 52 + f
+    some : (x : ℕ) → 0 < 2 ^ 52
+    some x = omega arith
+
+    above : (f : ℕ) → 2 ^ 51 < f → 2 ^ 52 + 2 ^ 51 < 2 ^ 52 + f
     above f h = omega arith
 
     below : (f : ℕ) → f < 2 ^ 51 → 2 ^ 52 + f < 2 ^ 52 + 2 ^ 51
     below f h = omega arith
 
-    over : (f : ℕ) → 2 ^ 51 ≤ f → 2 ^ 52 + f ≡ f - 2 ^ 51 + (2 ^ 52 + 2 ^ 51)
+    over : (f : ℕ) → 2 ^ 51 < f → 2 ^ 52 + f ≡ f - 2 ^ 51 + (2 ^ 52 + 2 ^ 51)
     over f h = omega arith
 
     under : (f : ℕ) → f < 2 ^ 51 → 2 ^ 52 + 2 ^ 51 ≡ 2 ^ 51 - f + (2 ^ 52 + f)
@@ -147,57 +212,60 @@ rest-val f e F E h =
 
 -- ---- the last sum
 
-pub last-sum : (t d : Float) (w f e c b y : ℕ) → HasValue t false w (2 ^ 1074) → Rest d f e → e - 1 + 1074 ≡ 12 + b → w * 2 ^ 1074 ≡ c * 2 ^ b
-    → y + 2 ^ 63 ≡ c + f * 4096 → 2 ^ 63 ≤ c
-    → add binary64 t d ≡ round binary64 false (y * 2 ^ b) (2 ^ 1074 * 2 ^ 1074)
-last-sum t d w f e c b y W R E C Y big = go (halves f)
+-- t of the sign s and d of the sign q, in units of 2 ^ (b - 2148)
+signed-sum : (t d : Float) (s q : Bool) (w v c e b y : ℕ) → HasValue t s w (2 ^ 1074) → HasValue d q v (2 ^ 1074) → w * 2 ^ 1074 ≡ c * 2 ^ b
+    → v * 2 ^ 1074 ≡ e * 2 ^ b → 0 < y → y + cond (unlike q s) e 0 ≡ c + cond (unlike q s) 0 e
+    → add binary64 t d ≡ round binary64 s (y * 2 ^ b) (2 ^ (1074 + 1074))
+signed-sum t d s q w v c e b y W D C E some total =
+    add-units t d s q w v (c * 2 ^ b) (e * 2 ^ b) W D C E ∙ sym (sum-is y c e b some s q s (own s (cond (unlike q s) e 0) (cond (unlike q s) 0 e) total))
   where
-    halves : (f : ℕ) → (2 ^ 51 ≤ f) ⊎ (f < 2 ^ 51)
-    halves f = pick (eq-zero-or-pos (2 ^ 51 - f))
+    plus : (m n : ℕ) → y + m ≡ c + n → y + (0 + m) ≡ c + n
+    plus m n e = omega arith
+
+    own : (s : Bool) (m n : ℕ) → y + m ≡ c + n → y + (cond (unlike s s) c 0 + m) ≡ cond (unlike s s) 0 c + n
+    own true m n e = plus m n e
+    own false m n e = plus m n e
+
+-- t and the rest that a cut word f stands for
+pub last-sum : (t d : Float) (s : Bool) (w f e c b y : ℕ) → HasValue t s w (2 ^ 1074) → Rest s d f e → e - 1 + 1074 ≡ 12 + b → w * 2 ^ 1074 ≡ c * 2 ^ b
+    → 0 < y → y + 2 ^ 63 ≡ c + f * 4096 → add binary64 t d ≡ round binary64 s (y * 2 ^ b) (2 ^ (1074 + 1074))
+last-sum t d s w f e c b y W R E C some Y = go (three f (2 ^ 51))
+  where
+    three : (a b : ℕ) → (b < a) ⊎ ((a ≡ b) ⊎ (a < b))
+    three a b = elim (eq-zero-or-pos (a - b)) [
+      | inl h ↦ inr (elim (eq-or-lt-of-le (sub-zero a b h)) [ inl e ↦ inl e | inr l ↦ inr l ])
+      | inr h ↦ inl (sub-some a b h)
+    ]
       where
-        yes₁ : (f : ℕ) → 2 ^ 51 - f ≡ 0 → 2 ^ 51 ≤ f
-        yes₁ f e = omega arith
+        sub-zero : (a b : ℕ) → a - b ≡ 0 → a ≤ b
+        sub-zero a b h = omega arith
 
-        no₁ : (f : ℕ) → 0 < 2 ^ 51 - f → f < 2 ^ 51
-        no₁ f h = omega arith
-
-        pick : (2 ^ 51 - f ≡ 0) ⊎ (0 < 2 ^ 51 - f) → (2 ^ 51 ≤ f) ⊎ (f < 2 ^ 51)
-        pick (inl e) = inl (yes₁ f e)
-        pick (inr h) = inr (no₁ f h)
+        sub-some : (a b : ℕ) → 0 < a - b → b < a
+        sub-some a b h = omega arith
 
     part : (n : ℕ) → n * 2 ^ (e - 1) * 2 ^ 1074 ≡ n * 4096 * 2 ^ b
-    part n = mul-assoc n (2 ^ (e - 1)) (2 ^ 1074) ∙ ap (λ (k : ℕ). n * k) (sym (pow-add 2 (e - 1) 1074) ∙ ap (λ (k : ℕ). 2 ^ k) E ∙ pow-add 2 12 b)
-        ∙ sym (mul-assoc n 4096 (2 ^ b))
+    part n = units-shift n (e - 1) 1074 12 b E
 
-    scaled : (v : ℕ) → v * 2 ^ 1074 ≡ y * 2 ^ b → round binary64 false v (2 ^ 1074) ≡ round binary64 false (y * 2 ^ b) (2 ^ 1074 * 2 ^ 1074)
-    scaled v h = round-same binary64 false v (2 ^ 1074) (y * 2 ^ b) (2 ^ 1074 * 2 ^ 1074) (pow-pos 1074) (mul-pos (pow-pos 1074) (pow-pos 1074))
-        (sym (mul-assoc v (2 ^ 1074) (2 ^ 1074)) ∙ ap (λ (k : ℕ). k * 2 ^ 1074) h)
+    up-is : (s : Bool) (y c f : ℕ) → y + 2 ^ 63 ≡ c + f * 4096 → 2 ^ 51 < f
+        → y + cond (unlike s s) ((f - 2 ^ 51) * 4096) 0 ≡ c + cond (unlike s s) 0 ((f - 2 ^ 51) * 4096)
+    up-is true y c f e h = omega arith
+    up-is false y c f e h = omega arith
 
-    up-is : (y c f : ℕ) → y + 2 ^ 63 ≡ c + f * 4096 → 2 ^ 51 ≤ f → c + (f - 2 ^ 51) * 4096 ≡ y
-    up-is y c f e h = omega arith
+    same-is : (s : Bool) (y c f : ℕ) → y + 2 ^ 63 ≡ c + f * 4096 → f ≡ 2 ^ 51 → y + cond (unlike false s) 0 0 ≡ c + cond (unlike false s) 0 0
+    same-is true y c f e h = omega arith
+    same-is false y c f e h = omega arith
 
-    down-is : (y c f : ℕ) → y + 2 ^ 63 ≡ c + f * 4096 → f < 2 ^ 51 → y + (2 ^ 51 - f) * 4096 ≡ c
-    down-is y c f e h = omega arith
+    down-is : (s : Bool) (y c f : ℕ) → y + 2 ^ 63 ≡ c + f * 4096 → f < 2 ^ 51
+        → y + cond (unlike (not s) s) ((2 ^ 51 - f) * 4096) 0 ≡ c + cond (unlike (not s) s) 0 ((2 ^ 51 - f) * 4096)
+    down-is true y c f e h = omega arith
+    down-is false y c f e h = omega arith
 
-    less : (w v y : ℕ) → y + v ≡ w → w - v ≡ y
-    less w v y e = omega arith
-
-    over : (y v w : ℕ) → y + v ≡ w → v ≤ w
-    over y v w e = omega arith
-
-    go : (2 ^ 51 ≤ f) ⊎ (f < 2 ^ 51) → add binary64 t d ≡ round binary64 false (y * 2 ^ b) (2 ^ 1074 * 2 ^ 1074)
-    go (inl h) = add-round t d w ((f - 2 ^ 51) * 2 ^ (e - 1)) (2 ^ 1074) (pow-pos 1074) W (R .plus h)
-        ∙ scaled (w + (f - 2 ^ 51) * 2 ^ (e - 1))
-        (add-mul w ((f - 2 ^ 51) * 2 ^ (e - 1)) (2 ^ 1074) ∙ ap (λ (k : ℕ). k + (f - 2 ^ 51) * 2 ^ (e - 1) * 2 ^ 1074) C ∙ ap (λ (k : ℕ). c * 2 ^ b + k)
-        (part (f - 2 ^ 51)) ∙ sym (add-mul c ((f - 2 ^ 51) * 4096) (2 ^ b)) ∙ ap (λ (k : ℕ). k * 2 ^ b) (up-is y c f Y h))
-    go (inr h) =
-        let v = (2 ^ 51 - f) * 2 ^ (e - 1) in
-        let q : y * 2 ^ b + v * 2 ^ 1074 ≡ w * 2 ^ 1074 =
-        ap (λ (k : ℕ). y * 2 ^ b + k) (part (2 ^ 51 - f)) ∙ sym (add-mul y ((2 ^ 51 - f) * 4096) (2 ^ b))
-        ∙ ap (λ (k : ℕ). k * 2 ^ b) (down-is y c f Y h) ∙ sym C in
-        add-values t d false true w v (2 ^ 1074) (pow-pos 1074) W (R .minus h)
-        ∙ sum-ge w v (2 ^ 1074) (native.Mathlib.Nat.le-of-mul-le-mul-right (over (y * 2 ^ b) (v * 2 ^ 1074) (w * 2 ^ 1074) q) (pow-pos 1074))
-        ∙ scaled (w - v) (sub-mul w v (2 ^ 1074) ∙ less (w * 2 ^ 1074) (v * 2 ^ 1074) (y * 2 ^ b) q)
+    go : (2 ^ 51 < f) ⊎ ((f ≡ 2 ^ 51) ⊎ (f < 2 ^ 51)) → add binary64 t d ≡ round binary64 s (y * 2 ^ b) (2 ^ (1074 + 1074))
+    go (inl h) =
+        signed-sum t d s s w ((f - 2 ^ 51) * 2 ^ (e - 1)) c ((f - 2 ^ 51) * 4096) b y W (R .plus h) C (part (f - 2 ^ 51)) some (up-is s y c f Y h)
+    go (inr (inl h)) = signed-sum t d s false w 0 c 0 b y W (R .none h) C (zero-mul (2 ^ 1074) ∙ sym (zero-mul (2 ^ b))) some (same-is s y c f Y h)
+    go (inr (inr h)) =
+        signed-sum t d s (not s) w ((2 ^ 51 - f) * 2 ^ (e - 1)) c ((2 ^ 51 - f) * 4096) b y W (R .minus h) C (part (2 ^ 51 - f)) some (down-is s y c f Y h)
 
 -- ---- a sticky bit below the last digits changes nothing
 

@@ -42,25 +42,31 @@ usable-is ex ey k s e =
       near-t = ltb→lt s 63 (and-r (leb 1 s) (ltb s 63) h);
     }
 
-pub record Reach (ex k m : ℕ) : Type 0 where
+pub record Reach (ex ey k m : ℕ) : Type 0 where
   pub low-x : 768 ≤ ex
   pub high-x : ex < 1280
+  pub low-y : 768 ≤ ey
+  pub high-y : ey < 1280
   pub near-z : k < 64
   pub low-t : 15 ≤ m
-  pub near-t : m < 62
+  pub near-t : m < 63
 
-pub reach-is : (ex k m : ℕ) → reach ex k m ≡ true → Reach ex k m
-reach-is ex k m e =
-    let t : T (reach ex k m) = subst T (sym e) tt in
-    let x = central-is ex (and-l (central ex) (ltb k 64 && (leb 15 m && ltb m 62)) t) in
-    let g = and-r (central ex) (ltb k 64 && (leb 15 m && ltb m 62)) t in
-    let h = and-r (ltb k 64) (leb 15 m && ltb m 62) g in
+pub reach-is : (ex ey k m : ℕ) → reach ex ey k m ≡ true → Reach ex ey k m
+reach-is ex ey k m e =
+    let t : T (reach ex ey k m) = subst T (sym e) tt in
+    let f = and-l (central ex && central ey) (ltb k 64 && (leb 15 m && ltb m 63)) t in
+    let g = and-r (central ex && central ey) (ltb k 64 && (leb 15 m && ltb m 63)) t in
+    let x = central-is ex (and-l (central ex) (central ey) f) in
+    let y = central-is ey (and-r (central ex) (central ey) f) in
+    let h = and-r (ltb k 64) (leb 15 m && ltb m 63) g in
     record {
       low-x = x .low;
       high-x = x .high;
-      near-z = ltb→lt k 64 (and-l (ltb k 64) (leb 15 m && ltb m 62) g);
-      low-t = leb→le 15 m (and-l (leb 15 m) (ltb m 62) h);
-      near-t = ltb→lt m 62 (and-r (leb 15 m) (ltb m 62) h);
+      low-y = y .low;
+      high-y = y .high;
+      near-z = ltb→lt k 64 (and-l (ltb k 64) (leb 15 m && ltb m 63) g);
+      low-t = leb→le 15 m (and-l (leb 15 m) (ltb m 63) h);
+      near-t = ltb→lt m 63 (and-r (leb 15 m) (ltb m 63) h);
     }
 
 pub record Far (ex ey ez : ℕ) : Type 0 where

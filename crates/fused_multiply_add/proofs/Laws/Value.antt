@@ -137,6 +137,16 @@ add-values (inf u) y s t a b l L h k = absurd h
 add-values (fin u m e) nan s t a b l L h k = absurd k
 add-values (fin u m e) (inf v) s t a b l L h k = absurd k
 
+-- in units of 2 ^ -2148
+pub add-units : (x y : Float) (s t : Bool) (a b c d : ℕ) → HasValue x s a (2 ^ 1074) → HasValue y t b (2 ^ 1074) → a * 2 ^ 1074 ≡ c → b * 2 ^ 1074 ≡ d
+    → add binary64 x y ≡ sum binary64 s c t d (2 ^ (1074 + 1074))
+add-units x y s t a b c d X Y C D =
+    add-values x y s t a b (2 ^ 1074) (pow-pos 1074) X Y
+    ∙ sum-same binary64 s t a b (2 ^ 1074) c d (2 ^ (1074 + 1074)) (pow-pos 1074) (pow-pos (1074 + 1074)) (wider a c C) (wider b d D)
+  where
+    wider : (a c : ℕ) → a * 2 ^ 1074 ≡ c → a * 2 ^ (1074 + 1074) ≡ c * 2 ^ 1074
+    wider a c e = ap (λ (q : ℕ). a * q) (pow-add 2 1074 1074) ∙ sym (mul-assoc a (2 ^ 1074) (2 ^ 1074)) ∙ ap (λ (q : ℕ). q * 2 ^ 1074) e
+
 neg-value : (y : Float) (t : Bool) (b l : ℕ) → HasValue y t b l → HasValue (neg y) (not t) b l
 unfolding neg
 neg-value nan t b l h = absurd h

@@ -1,12 +1,20 @@
--- With a zero as z the product is the answer (`lone-product`). An answer of the guided form is fma's bits (`found-fma`); without one it is `unguided`'s. A NaN among the three makes t one.
-use mathlib.Core.Path.{sym, _∙_, subst}
-use mathlib.Core.Bool.{not}
+-- With a zero as z the product is the answer (`lone-product`). Else t is near the exact sum (`close`), so the rest fits one word; adding the rest, cut with
+-- a sticky bit, rounds as the exact sum does (`residual-law`). Without the tests it is `guided`'s. A NaN among the three makes t one. e1 and on are the
+-- places before the tests.
+use mathlib.Core.Path.{_≡_, sym, ap, _∙_, subst}
+use mathlib.Core.Bool.{Bool, not}
+use Prim.Native.Nat.{ℕ, _+_, _≤_, _<_}
+use native.Mathlib.Omega.{arith}
+use mir.Facts.{fits-below}
 use borrow.Author.Needs.{needs}
 use borrow.Author.Tests.{not-false}
 use lib.Dec.{T}
-use lib.Ieee.{binary64, fits, add, mul, isNan}
+use lib.Ieee.{binary64, fits, unlike, add, mul, isNan}
 use Rattle.binary64.proofs.Pattern.{self-equal}
-use Rattle.fused_multiply_add.proofs.Laws.Guided.{number-x, number-y, number-z, found-number, found-fma}
+use Rattle.fused_multiply_add.proofs.Laws.Value.{signOf}
+use Rattle.fused_multiply_add.proofs.Laws.Guided.{number-x, number-y, number-z}
+use Rattle.fused_multiply_add.proofs.Laws.Tests.{Reach, reach-is}
+use Rattle.fused_multiply_add.proofs.Laws.Candidate.{place-word, exponent-low, exponent-some, exponent-most, close, residual-law}
 use Rattle.fused_multiply_add.proofs.Laws.Cases.{lone-product}
 use Rattle.fused_multiply_add.proofs.mul_add.Statement.{statement}
 use Rattle.fused_multiply_add.proofs.mul_add.Tie as tie
@@ -25,27 +33,82 @@ number-t : (e : tie.Else2)
     → T (not (isNan (add binary64 (mul binary64 (e .before .before .before .args .x) (e .before .before .before .args .y)) (e .before .before .before .args .z))))
 number-t e = let s = e .before .before .before in self-equal (add binary64 (mul binary64 (s .args .x) (s .args .y)) (s .args .z)) (e .if2 .left)
 
-float-to-bits-guided-bits : tie.Need-float-to-bits-guided-bits
-float-to-bits-guided-bits c = let s = c .before .before .before in number-x (s .args .x) (s .args .y) (s .args .z) (number-t c)
+float-to-bits-bx : tie.Need-float-to-bits-bx
+float-to-bits-bx c = let s = c .before .before .before in number-x (s .args .x) (s .args .y) (s .args .z) (number-t c)
 
-float-to-bits-guided-bits-2 : tie.Need-float-to-bits-guided-bits-2
-float-to-bits-guided-bits-2 c = let s = c .before .before .before in number-y (s .args .x) (s .args .y) (s .args .z) (number-t c)
+float-to-bits-by : tie.Need-float-to-bits-by
+float-to-bits-by c = let s = c .before .before .before in number-y (s .args .x) (s .args .y) (s .args .z) (number-t c)
 
-float-to-bits-guided-bits-3 : tie.Need-float-to-bits-guided-bits-3
-float-to-bits-guided-bits-3 c = let s = c .before .before .before in number-z (s .args .x) (s .args .y) (s .args .z) (number-t c)
+float-to-bits-bz : tie.Need-float-to-bits-bz
+float-to-bits-bz c = let s = c .before .before .before in number-z (s .args .x) (s .args .y) (s .args .z) (number-t c)
 
-unguided-requires : tie.Need-unguided-requires
-unguided-requires c κs =
-    let e = c .before .before .before in
-    let s = e .before .before .before in
-    let n = number-t e in
-    (number-x (s .args .x) (s .args .y) (s .args .z) n, (number-y (s .args .x) (s .args .y) (s .args .z) n, number-z (s .args .x) (s .args .y) (s .args .z) n))
+guided-requires : tie.Need-guided-requires
+guided-requires c κs =
+    let e1 = c .before in let e2 = e1 .before in let e3 = e2 .before in let e4 = e3 .before in let e5 = e4 .before in
+    let e6 = e5 .before in let e7 = e6 .before in let e8 = e7 .before in
+    (float-to-bits-bx e8, (float-to-bits-by e8, (float-to-bits-bz e8, number-t e8)))
 
-float-from-bits-result : tie.Need-float-from-bits-result
-float-from-bits-result c =
-    let s = c .before .before .before .before .before .before .before in
-    let a = c .before .before .before .guided-bits in
-    found-number (s .args .x) (s .args .y) (s .args .z) (a .result .sig) (a .ensures .1 (not-false (a .result .ok) (c .before .if3 .left)))
+ok-there : (e : tie.Else3) → Reach (e .before .before .before .before .before .before .before .field .result)
+    (e .before .before .before .before .before .before .field2 .result)
+    (e .before .before .before .before .wrapping-sub-u64 .result) (e .before .before .wrapping-sub-u642 .result)
+ok-there e =
+    let e1 = e .before in let e2 = e1 .before in let e3 = e2 .before in let e4 = e3 .before in let e5 = e4 .before in
+    let e6 = e5 .before in let e7 = e6 .before in
+    reach-is (e7 .field .result) (e6 .field2 .result) (e4 .wrapping-sub-u64 .result) (e2 .wrapping-sub-u642 .result)
+    (sym (e1 .reach .ensures) ∙ not-false (e1 .reach .result) (e .if3 .left))
+
+-- where the product's sign differs from t's, and where z's does
+product-sign : (c : tie.After-opposite2)
+    → let n = c .before .before .before .before in
+    let s = n .before .before .before .before .before .before .before .before .before .before .before .before in
+    c .opposite2 .result ≡ unlike (unlike (signOf (s .args .x)) (signOf (s .args .y))) (n .minus-sign .result)
+product-sign c =
+    let o = c .before in let y = o .before in let x = y .before in let n = x .before in
+    let s = n .before .before .before .before .before .before .before .before .before .before .before .before in
+    c .opposite2 .ensures
+    ∙ ap (λ (w : Bool). unlike w (n .minus-sign .result))
+    (o .opposite .ensures
+    ∙ ap (λ (w : Bool). unlike w (y .minus-sign3 .result)) (x .minus-sign2 .ensures)
+    ∙ ap (λ (w : Bool). unlike (signOf (s .args .x)) w) (y .minus-sign3 .ensures))
+
+addend-sign : (c : tie.After-opposite3)
+    → let n = c .before .before .before .before .before .before in
+    let s = n .before .before .before .before .before .before .before .before .before .before .before .before in
+    c .opposite3 .result ≡ unlike (signOf (s .args .z)) (n .minus-sign .result)
+addend-sign c =
+    let n = c .before .before .before .before .before .before in
+    c .opposite3 .ensures ∙ ap (λ (w : Bool). unlike w (n .minus-sign .result)) (c .before .minus-sign4 .ensures)
+
+rest-word-requires : tie.Need-rest-word-requires
+rest-word-requires c κs =
+    let b1 = c .before in let b2 = b1 .before in let b3 = b2 .before in let b4 = b3 .before in let b6 = b4 .before .before in
+    let b10 = b6 .before .before .before .before in let b11 = b10 .before in
+    let e1 = b11 .before in let e2 = e1 .before in let e3 = e2 .before in let e4 = e3 .before in let e5 = e4 .before in
+    let e6 = e5 .before in let e7 = e6 .before in let s = e7 .before .before .before .before in
+    let ok = ok-there b11 in (
+      (ok .near-z, place-word (e2 .wrapping-sub-u642 .result) (ok .near-t)),
+      close (s .args .x) (s .args .y) (s .args .z) (held-x s) (held-y s) (held-z s) (e7 .field .result) (e6 .field2 .result) (e5 .field3 .result)
+          (e3 .field4 .result)
+          (e4 .wrapping-sub-u64 .result) (e2 .wrapping-sub-u642 .result) (b3 .digits .result) (b2 .digits2 .result) (b1 .digits3 .result) (c .digits4 .result)
+          (e7 .field .ensures) (e6 .field2 .ensures) (e5 .field3 .ensures) (e3 .field4 .ensures) (e4 .wrapping-sub-u64 .ensures)
+          (e2 .wrapping-sub-u642 .ensures) ok (b3 .digits .ensures) (b2 .digits2 .ensures) (b1 .digits3 .ensures) (c .digits4 .ensures)
+          (b10 .minus-sign .result) (b6 .opposite2 .result) (b4 .opposite3 .result) (b10 .minus-sign .ensures) (product-sign b6) (addend-sign b4),
+    )
+
+sub-rest-float : tie.Need-sub-rest-float
+sub-rest-float c =
+    let b9 = c .before .before .before .before .before .before .before .before .before .before .before .before .before in
+    let e6 = b9 .before .before .before .before .before .before in
+    exponent-low (e6 .before .field .result) (e6 .field2 .result) (ok-there b9 .low-x) (ok-there b9 .low-y)
+
+rest-float-requires : tie.Need-rest-float-requires
+rest-float-requires c κs =
+    let b9 = c .before .before .before .before .before .before .before .before .before .before .before .before .before in
+    let e6 = b9 .before .before .before .before .before .before in
+    let x = e6 .before .field .result in
+    let y = e6 .field2 .result in
+    let ok = ok-there b9 in
+    (c .jam-word .ensures .1, (exponent-some x y (ok .low-x) (ok .low-y), exponent-most x y (ok .high-x) (ok .high-y)))
 
 returns : tie.Need-returns
 returns c =
@@ -56,18 +119,36 @@ returns-2 : tie.Need-returns-2
 returns-2 c = c .fused-integer .ensures
 
 returns-3 : tie.Need-returns-3
-returns-3 c = c .unguided .ensures
+returns-3 c = c .guided .ensures
 
 returns-4 : tie.Need-returns-4
 returns-4 c =
-    let s = c .before .before .before .before .before .before .before in
-    let a = c .before .before .before .guided-bits in
-    found-fma (s .args .x) (s .args .y) (s .args .z) (a .result .sig) (held-x s) (held-y s) (held-z s)
-    (a .ensures .1 (not-false (a .result .ok) (c .before .if3 .left)))
+    let j = c .before in let w = j .before in let d = w .before in
+    let b1 = d .before in let b2 = b1 .before in let b3 = b2 .before in let b4 = b3 .before in let b6 = b4 .before .before in
+    let b10 = b6 .before .before .before .before in let b11 = b10 .before in
+    let e1 = b11 .before in let e2 = e1 .before in let e3 = e2 .before in let e4 = e3 .before in let e5 = e4 .before in
+    let e6 = e5 .before in let e7 = e6 .before in let s = e7 .before .before .before .before in
+    residual-law (s .args .x) (s .args .y) (s .args .z) (held-x s) (held-y s) (held-z s) (e7 .field .result) (e6 .field2 .result) (e5 .field3 .result)
+    (e3 .field4 .result)
+    (e4 .wrapping-sub-u64 .result) (e2 .wrapping-sub-u642 .result) (b3 .digits .result) (b2 .digits2 .result) (b1 .digits3 .result) (d .digits4 .result)
+    (e7 .field .ensures) (e6 .field2 .ensures) (e5 .field3 .ensures) (e3 .field4 .ensures) (e4 .wrapping-sub-u64 .ensures)
+    (e2 .wrapping-sub-u642 .ensures) (ok-there b11) (b3 .digits .ensures) (b2 .digits2 .ensures) (b1 .digits3 .ensures) (d .digits4 .ensures)
+    (b10 .minus-sign .result) (b6 .opposite2 .result) (b4 .opposite3 .result) (b10 .minus-sign .ensures) (product-sign b6) (addend-sign b4)
+    (w .rest-word .result) (j .jam-word .result) (c .rest-float .result) (w .rest-word .ensures) (j .jam-word .ensures .0) (c .rest-float .ensures)
+
+add-rest-float : tie.Need-add-rest-float
+add-rest-float c =
+    let b9 = c .before .before .before .before .before .before .before .before .before .before .before .before .before in
+    let e6 = b9 .before .before .before .before .before .before in
+    fits-below tt (most (e6 .before .field .result) (e6 .field2 .result) (ok-there b9 .high-x) (ok-there b9 .high-y))
+  where
+    most : (e d : ℕ) → e < 1280 → d < 1280 → e + d ≤ 2560
+    most e d h k = omega arith
 
 pub mul-add-spec : {M : Type 1} → statement M
 mul-add-spec =
     tie.close
-    (tie.spec (search needs) returns (search needs) returns-2 float-to-bits-guided-bits float-to-bits-guided-bits-2 float-to-bits-guided-bits-3 number-t
-    (search needs)
-    unguided-requires returns-3 float-from-bits-result returns-4)
+    (tie.spec (search needs) returns (search needs) returns-2 float-to-bits-bx float-to-bits-by float-to-bits-bz number-t (search needs) (search needs)
+    (search needs) (search needs) (search needs) (search needs) (search needs) (search needs) (search needs) (search needs) (search needs) guided-requires
+    returns-3 (search needs) (search needs) (search needs) (search needs) (search needs) (search needs) (search needs) (search needs) (search needs) (search needs) (search needs)
+    rest-word-requires (search needs) add-rest-float sub-rest-float rest-float-requires returns-4)

@@ -8,18 +8,16 @@ use Rattle.fused_multiply_add.proofs.rest_word.Tie as tie
 
 returns : tie.Need-returns
 returns c =
-    let s = c .before .before .before .before in
-    let p = c .before .before .before .low-product in
-    let lo = c .before .before .wrapping-add-u64 in
-    let d = c .before .wrapping-sub-u64 in
-    let r = c .wrapping-add-u642 in
+    let b1 = c .before in let b2 = b1 .before in let b3 = b2 .before in let b4 = b3 .before in let b5 = b4 .before in
+    let s = b5 .before in
     let z = s .args .w * 2 ^ s .args .k in
     let t = s .args .c * 2 ^ s .args .m in
-    rest-law (s .args .u * s .args .u) z t (p .result) (z % 2 ^ 64) (lo .result) (t % 2 ^ 64) (d .result) (r .result) (p .ensures) refl (lo .ensures) refl
-    (d .ensures) (r .ensures) (s .pre .1 .0) (s .pre .1 .1)
+    rest-law (s .args .cp) (s .args .cz) (s .args .u * s .args .v) z t (b5 .low-product .result) (b4 .negate .result) (z % 2 ^ 64) (b3 .negate2 .result)
+    (b2 .wrapping-add-u64 .result) (t % 2 ^ 64) (b1 .wrapping-sub-u64 .result) (c .wrapping-add-u642 .result) (b5 .low-product .ensures)
+    (b4 .negate .ensures) refl (b3 .negate2 .ensures) (b2 .wrapping-add-u64 .ensures) refl (b1 .wrapping-sub-u64 .ensures) (c .wrapping-add-u642 .ensures)
+    (s .pre .1)
 
 pub rest-word-spec : {M : Type 1} → statement M
 rest-word-spec =
     tie.close
-    (tie.spec (search needs) (search needs) (search needs) (search needs) (search needs) (search needs)
-    returns)
+    (tie.spec (search needs) (search needs) (search needs) (search needs) (search needs) (search needs) (search needs) (search needs) returns)

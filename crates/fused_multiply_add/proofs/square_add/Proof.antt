@@ -1,16 +1,17 @@
--- With a zero as z the square is the answer (`lone-product`). Else t is near the exact sum (`close`), so the rest fits one word; adding the rest, cut with a sticky bit, rounds as the exact sum does (`residual-law`). e1
--- and on are the places before the tests.
-use mathlib.Core.Path.{sym, _∙_, subst}
-use Prim.Native.Nat.{ℕ, _+_, _-_, _≤_, _<_}
-use native.Mathlib.Omega.{arith}
+-- `mul_add`'s argument with two equal factors and no minus sign: neither the square nor z has one, so t has none (`t-plus`). e1 and on are the places before
+-- the tests.
+use mathlib.Core.Path.{_≡_, refl, sym, ap, _∙_, subst}
+use mathlib.Core.Bool.{Bool, true, false}
+use Prim.Native.Nat.{_^_}
 use borrow.Author.Needs.{needs}
-use borrow.Author.Tests.{not-false}
+use borrow.Author.Tests.{not-false, lt-leb}
 use lib.Dec.{T}
-use lib.Ieee.{binary64, fits, add, mul}
+use lib.Ieee.{binary64, fits, unlike, add, mul, toBits}
 use Rattle.binary64.proofs.Pattern.{self-equal}
+use Rattle.fused_multiply_add.proofs.Laws.Value.{signOf}
 use Rattle.fused_multiply_add.proofs.Laws.Guided.{number-x, number-z}
 use Rattle.fused_multiply_add.proofs.Laws.Tests.{Reach, reach-is}
-use Rattle.fused_multiply_add.proofs.Laws.Square.{close, residual-law}
+use Rattle.fused_multiply_add.proofs.Laws.Candidate.{place-word, exponent-low, exponent-some, exponent-most, t-plus, close, residual-law}
 use Rattle.fused_multiply_add.proofs.Laws.Cases.{lone-product}
 use Rattle.fused_multiply_add.proofs.square_add.Statement.{statement}
 use Rattle.fused_multiply_add.proofs.square_add.Tie as tie
@@ -36,65 +37,91 @@ float-to-bits-bt c =
     let s = c .before .before .before in
     self-equal (add binary64 (mul binary64 (s .args .x) (s .args .x)) (s .args .z)) (c .if2 .left)
 
-ok-there : (e : tie.Else4) → Reach (e .before .before .before .before .before .before .field .result) (e .before .before .before .wrapping-sub-u64 .result)
+guided-requires : tie.Need-guided-requires
+guided-requires c κs =
+    let e8 = c .before .before .before .before .before .before .before .before in
+    (float-to-bits-bx e8, (float-to-bits-bx e8, (float-to-bits-bz e8, float-to-bits-bt e8)))
+
+ok-there : (e : tie.Else4) → Reach (e .before .before .before .before .before .before .field .result)
+    (e .before .before .before .before .before .before .field .result) (e .before .before .before .wrapping-sub-u64 .result)
     (e .before .before .wrapping-sub-u642 .result)
 ok-there e =
     let e1 = e .before in let e2 = e1 .before in let e3 = e2 .before in let e4 = e3 .before in let e5 = e4 .before in
     let e6 = e5 .before in
-    reach-is (e6 .field .result) (e3 .wrapping-sub-u64 .result) (e2 .wrapping-sub-u642 .result)
+    reach-is (e6 .field .result) (e6 .field .result) (e3 .wrapping-sub-u64 .result) (e2 .wrapping-sub-u642 .result)
     (sym (e1 .reach .ensures) ∙ not-false (e1 .reach .result) (e .if4 .left))
+
+-- the square has no minus sign, nor has z
+square-plus : (s : Bool) → unlike s s ≡ false
+square-plus true = refl
+square-plus false = refl
+
+product-sign : (s : Bool) → false ≡ unlike (unlike s s) false
+product-sign s = sym (ap (λ (b : Bool). unlike b false) (square-plus s))
+
+addend-sign : (s : Bool) → s ≡ false → false ≡ unlike s false
+addend-sign s e = sym (ap (λ (b : Bool). unlike b false) e)
+
+z-plus : (c : tie.Else3) → signOf (c .before .before .before .before .args .z) ≡ false
+z-plus c = lt-leb (2 ^ 63) (toBits binary64 (c .before .before .before .before .args .z)) (c .if3 .left)
+
+-- nor has t
+t-sign : (c : tie.After-digits3)
+    → let s = c .before .before .before .before .before .before .before .before .before .before .before .before .before .before in
+    signOf (add binary64 (mul binary64 (s .args .x) (s .args .x)) (s .args .z)) ≡ false
+t-sign c =
+    let b1 = c .before in let b2 = b1 .before in let b3 = b2 .before in
+    let e1 = b3 .before in let e2 = e1 .before in let e3 = e2 .before in let e4 = e3 .before in let e5 = e4 .before in
+    let e6 = e5 .before in let e7 = e6 .before in let s = e7 .before .before .before .before in
+    t-plus (s .args .x) (s .args .x) (s .args .z) (held-x s) (held-x s) (held-z s) (e6 .field .result) (e6 .field .result) (e5 .field2 .result)
+    (e4 .field3 .result)
+    (e3 .wrapping-sub-u64 .result) (e2 .wrapping-sub-u642 .result) (b2 .digits .result) (b2 .digits .result) (b1 .digits2 .result) (c .digits3 .result)
+    (e6 .field .ensures) (e6 .field .ensures) (e5 .field2 .ensures) (e4 .field3 .ensures) (e3 .wrapping-sub-u64 .ensures) (e2 .wrapping-sub-u642 .ensures)
+    (ok-there b3) (b2 .digits .ensures) (b2 .digits .ensures) (b1 .digits2 .ensures) (c .digits3 .ensures) (square-plus (signOf (s .args .x))) (z-plus e7)
 
 rest-word-requires : tie.Need-rest-word-requires
 rest-word-requires c κs =
     let b1 = c .before in let b2 = b1 .before in let b3 = b2 .before in
     let e1 = b3 .before in let e2 = e1 .before in let e3 = e2 .before in let e4 = e3 .before in let e5 = e4 .before in
-    let e6 = e5 .before in let e7 = e6 .before in let e8 = e7 .before in let e9 = e8 .before .before .before in
+    let e6 = e5 .before in let e7 = e6 .before in let s = e7 .before .before .before .before in
     let ok = ok-there b3 in (
-      (ok .near-z, more (e2 .wrapping-sub-u642 .result) (ok .near-t)),
-      close (e9 .args .x) (e9 .args .z) (held-x e9) (held-z e9) (e6 .field .result) (e5 .field2 .result) (e4 .field3 .result) (e3 .wrapping-sub-u64 .result)
-          (e2 .wrapping-sub-u642 .result) (b2 .digits .result) (b1 .digits2 .result) (c .digits3 .result) (e6 .field .ensures) (e5 .field2 .ensures)
-          (e4 .field3 .ensures)
-          (e7 .if3 .left) (e3 .wrapping-sub-u64 .ensures) (e2 .wrapping-sub-u642 .ensures) ok (b2 .digits .ensures) (b1 .digits2 .ensures)
-          (c .digits3 .ensures),
+      (ok .near-z, place-word (e2 .wrapping-sub-u642 .result) (ok .near-t)),
+      close (s .args .x) (s .args .x) (s .args .z) (held-x s) (held-x s) (held-z s) (e6 .field .result) (e6 .field .result) (e5 .field2 .result)
+          (e4 .field3 .result)
+          (e3 .wrapping-sub-u64 .result) (e2 .wrapping-sub-u642 .result) (b2 .digits .result) (b2 .digits .result) (b1 .digits2 .result)
+          (c .digits3 .result)
+          (e6 .field .ensures) (e6 .field .ensures) (e5 .field2 .ensures) (e4 .field3 .ensures) (e3 .wrapping-sub-u64 .ensures)
+          (e2 .wrapping-sub-u642 .ensures)
+          ok (b2 .digits .ensures) (b2 .digits .ensures) (b1 .digits2 .ensures) (c .digits3 .ensures) false false false
+          (sym (t-sign c)) (product-sign (signOf (s .args .x))) (addend-sign (signOf (s .args .z)) (z-plus e7)),
     )
-  where
-    more : (m : ℕ) → m < 62 → m < 64
-    more m h = omega arith
 
 sub-rest-float : tie.Need-sub-rest-float
 sub-rest-float c =
-    let b1 = c .before in let b2 = b1 .before in let b3 = b2 .before in let b4 = b3 .before in let b5 = b4 .before in
-    less (b5 .before .before .before .before .before .before .field .result) (ok-there b5 .low-x)
-  where
-    less : (e : ℕ) → 768 ≤ e → 1063 ≤ e + e
-    less e h = omega arith
+    let b3 = c .before .before .before .before .before in
+    let x = b3 .before .before .before .before .before .before .field .result in
+    exponent-low x x (ok-there b3 .low-x) (ok-there b3 .low-x)
 
 rest-float-requires : tie.Need-rest-float-requires
 rest-float-requires c κs =
-    let b1 = c .before in let b2 = b1 .before in let b3 = b2 .before in let b4 = b3 .before in let b5 = b4 .before in
-    let x = b5 .before .before .before .before .before .before .field .result in
-    let ok = ok-there b5 in
-    (c .jam-word .ensures .1, (some x (ok .low-x), most x (ok .high-x)))
-  where
-    some : (e : ℕ) → 768 ≤ e → 1 ≤ e + e - 1063
-    some e h = omega arith
-
-    most : (e : ℕ) → e < 1280 → e + e - 1063 < 2000
-    most e h = omega arith
+    let b3 = c .before .before .before .before .before in
+    let x = b3 .before .before .before .before .before .before .field .result in
+    let ok = ok-there b3 in
+    (c .jam-word .ensures .1, (exponent-some x x (ok .low-x) (ok .low-x), exponent-most x x (ok .high-x) (ok .high-x)))
 
 returns-5 : tie.Need-returns-5
 returns-5 c =
-    let b1 = c .before in let b2 = b1 .before in let b3 = b2 .before in let b4 = b3 .before in let b5 = b4 .before in
-    let b6 = b5 .before in
-    let e1 = b6 .before in let e2 = e1 .before in let e3 = e2 .before in let e4 = e3 .before in let e5 = e4 .before in
-    let e6 = e5 .before in let e7 = e6 .before in let e8 = e7 .before in let e9 = e8 .before .before .before in
-    residual-law (e9 .args .x) (e9 .args .z) (held-x e9) (held-z e9) (e6 .field .result) (e5 .field2 .result) (e4 .field3 .result)
-    (e3 .wrapping-sub-u64 .result)
-    (e2 .wrapping-sub-u642 .result) (b5 .digits .result) (b4 .digits2 .result) (b3 .digits3 .result) (e6 .field .ensures) (e5 .field2 .ensures)
-    (e4 .field3 .ensures)
-    (e7 .if3 .left) (e3 .wrapping-sub-u64 .ensures) (e2 .wrapping-sub-u642 .ensures) (ok-there b6) (b5 .digits .ensures) (b4 .digits2 .ensures)
-    (b3 .digits3 .ensures)
-    (b2 .rest-word .result) (b1 .jam-word .result) (c .rest-float .result) (b2 .rest-word .ensures) (b1 .jam-word .ensures .0) (c .rest-float .ensures)
+    let j = c .before in let w = j .before in let d = w .before in
+    let b1 = d .before in let b2 = b1 .before in let b3 = b2 .before in
+    let e1 = b3 .before in let e2 = e1 .before in let e3 = e2 .before in let e4 = e3 .before in let e5 = e4 .before in
+    let e6 = e5 .before in let e7 = e6 .before in let s = e7 .before .before .before .before in
+    residual-law (s .args .x) (s .args .x) (s .args .z) (held-x s) (held-x s) (held-z s) (e6 .field .result) (e6 .field .result) (e5 .field2 .result)
+    (e4 .field3 .result)
+    (e3 .wrapping-sub-u64 .result) (e2 .wrapping-sub-u642 .result) (b2 .digits .result) (b2 .digits .result) (b1 .digits2 .result) (d .digits3 .result)
+    (e6 .field .ensures) (e6 .field .ensures) (e5 .field2 .ensures) (e4 .field3 .ensures) (e3 .wrapping-sub-u64 .ensures) (e2 .wrapping-sub-u642 .ensures)
+    (ok-there b3) (b2 .digits .ensures) (b2 .digits .ensures) (b1 .digits2 .ensures) (d .digits3 .ensures) false false false
+    (sym (t-sign d)) (product-sign (signOf (s .args .x))) (addend-sign (signOf (s .args .z)) (z-plus e7)) (w .rest-word .result) (j .jam-word .result)
+    (c .rest-float .result) (w .rest-word .ensures) (j .jam-word .ensures .0) (c .rest-float .ensures)
 
 returns : tie.Need-returns
 returns c =
@@ -108,12 +135,12 @@ returns-3 : tie.Need-returns-3
 returns-3 c = c .mul-add2 .ensures
 
 returns-4 : tie.Need-returns-4
-returns-4 c = c .mul-add3 .ensures
+returns-4 c = c .guided .ensures
 
 pub square-add-spec : {M : Type 1} → statement M
 square-add-spec =
     tie.close
     (tie.spec (search needs) returns (search needs) returns-2 float-to-bits-bx float-to-bits-bz float-to-bits-bt (search needs) returns-3 (search needs)
     (search needs) (search needs) (search needs) (search needs) (search needs) (search needs) (search needs) (search needs) (search needs)
-    (search needs) returns-4 (search needs) (search needs) (search needs) rest-word-requires (search needs) (search needs) sub-rest-float
+    guided-requires returns-4 (search needs) (search needs) (search needs) rest-word-requires (search needs) (search needs) sub-rest-float
     rest-float-requires returns-5)

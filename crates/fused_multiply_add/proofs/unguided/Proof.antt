@@ -1,6 +1,6 @@
 -- Where z is far above the product, `far-law`; else the integer form. e1 and on are the places before the test.
 use mathlib.Core.Path.{_≡_, sym, ap, _∙_, subst}
-use mathlib.Core.Bool.{Bool, cond}
+use mathlib.Core.Bool.{Bool}
 use Prim.Native.Nat.{ℕ, _+_, _-_, _^_, _≤_, _<_}
 use native.Mathlib.Omega.{arith}
 use mir.Facts.{fits-below}
@@ -12,7 +12,7 @@ use Rattle.fused_multiply_add.specs.Jam.{Jam}
 use Rattle.fused_multiply_add.proofs.Laws.Value.{signOf}
 use Rattle.fused_multiply_add.proofs.Laws.Tests.{Far, far-is}
 use Rattle.fused_multiply_add.proofs.Laws.Guided.{digits-lt, field-lt, product-high}
-use Rattle.fused_multiply_add.proofs.Laws.Far.{far-law, offset-lt}
+use Rattle.fused_multiply_add.proofs.Laws.Far.{far-law}
 use Rattle.fused_multiply_add.proofs.unguided.Statement.{statement}
 use Rattle.fused_multiply_add.proofs.unguided.Tie as tie
 
@@ -64,12 +64,15 @@ jam-product-requires c κs =
     product-high (u .result) (v .result) (c .product .result .hi) (c .product .result .lo) (digits-lt (toBits binary64 (s .args .x)) (u .result) (u .ensures))
     (digits-lt (toBits binary64 (s .args .y)) (v .result) (v .ensures)) (c .product .ensures)
 
-offset-requires : tie.Need-offset-requires
-offset-requires c κs = c .before .before .before .jam-product .ensures .1
-
 add-rest-float : tie.Need-add-rest-float
-add-rest-float c =
-    let e = c .before .before .before .before .before .before .before .before in
+add-rest-float c = fits-below tt (most (c .before .before .before .jam-product .result) (c .before .before .before .jam-product .ensures .1))
+  where
+    most : (f : ℕ) → f < 2 ^ 51 → 2 ^ 51 + f ≤ 2 ^ 52
+    most f h = omega arith
+
+add-rest-float-2 : tie.Need-add-rest-float-2
+add-rest-float-2 c =
+    let e = c .before .before .before .before .before .before .before in
     fits-below tt
     (most (e .before .before .before .before .field .result) (e .before .before .before .field2 .result) (ok-there e .high-x) (ok-there e .high-y))
   where
@@ -78,24 +81,24 @@ add-rest-float c =
 
 sub-rest-float : tie.Need-sub-rest-float
 sub-rest-float c =
-    let b1 = c .before in let b2 = b1 .before in let b3 = b2 .before in let b4 = b3 .before in let b5 = b4 .before in
-    let b6 = b5 .before in let b7 = b6 .before in let b8 = b7 .before in
-    less (b8 .before .before .before .before .field .result) (b8 .before .before .before .field2 .result) (ok-there b8 .low-x) (ok-there b8 .low-y)
+    let e = c .before .before .before .before .before .before .before in
+    less (e .before .before .before .before .field .result) (e .before .before .before .field2 .result) (ok-there e .low-x) (ok-there e .low-y)
   where
     less : (e d : ℕ) → 768 ≤ e → 768 ≤ d → 1020 ≤ e + d
     less e d h k = omega arith
 
 rest-float-requires : tie.Need-rest-float-requires
 rest-float-requires c κs =
-    let b1 = c .before in let b2 = b1 .before in let b3 = b2 .before in let b4 = b3 .before in let b5 = b4 .before in
-    let b6 = b5 .before in let b7 = b6 .before in let b8 = b7 .before in
-    let x = b8 .before .before .before .before .field .result in
-    let y = b8 .before .before .before .field2 .result in
-    let ok = ok-there b8 in (
-      offset-lt (b1 .opposite .result) (b4 .jam-product .result) (c .offset .result) (b4 .jam-product .ensures .1) (c .offset .ensures),
-      (some x y (ok .low-x) (ok .low-y), most x y (ok .high-x) (ok .high-y)),
-    )
+    let j = c .before .before .before in
+    let e = j .before .before .before .before in
+    let x = e .before .before .before .before .field .result in
+    let y = e .before .before .before .field2 .result in
+    let ok = ok-there e in
+    (above (j .jam-product .result) (j .jam-product .ensures .1), (some x y (ok .low-x) (ok .low-y), most x y (ok .high-x) (ok .high-y)))
   where
+    above : (f : ℕ) → f < 2 ^ 51 → 2 ^ 51 + f < 2 ^ 52
+    above f h = omega arith
+
     some : (e d : ℕ) → 768 ≤ e → 768 ≤ d → 1 ≤ e + d - 1020
     some e d h k = omega arith
 
@@ -105,23 +108,22 @@ rest-float-requires c κs =
 returns-2 : tie.Need-returns-2
 returns-2 c =
     let b1 = c .before in let b2 = b1 .before in let b3 = b2 .before in let b4 = b3 .before in let b5 = b4 .before in
-    let b6 = b5 .before in let b7 = b6 .before in let b8 = b7 .before in let b9 = b8 .before in
-    let e1 = b9 .before in let e2 = e1 .before in let e3 = e2 .before in let e4 = e3 .before in let e5 = e4 .before in
-    let sign : b2 .opposite .result ≡ unlike (signOf (e5 .args .x)) (signOf (e5 .args .y)) =
-    b2 .opposite .ensures
-    ∙ ap (λ (w : Bool). unlike w (b3 .minus-sign2 .result)) (b4 .minus-sign .ensures)
-    ∙ ap (λ (w : Bool). unlike (signOf (e5 .args .x)) w) (b3 .minus-sign2 .ensures) in
-    let f = b5 .jam-product .result in
+    let b6 = b5 .before in let b7 = b6 .before in let b8 = b7 .before in
+    let e1 = b8 .before in let e2 = e1 .before in let e3 = e2 .before in let e4 = e3 .before in let e5 = e4 .before in
+    let sign : b1 .opposite .result ≡ unlike (signOf (e5 .args .x)) (signOf (e5 .args .y)) =
+    b1 .opposite .ensures
+    ∙ ap (λ (w : Bool). unlike w (b2 .minus-sign2 .result)) (b3 .minus-sign .ensures)
+    ∙ ap (λ (w : Bool). unlike (signOf (e5 .args .x)) w) (b2 .minus-sign2 .ensures) in
+    let f = b4 .jam-product .result in
     far-law (e5 .args .x) (e5 .args .y) (e5 .args .z) (held-x e5) (held-y e5) (held-z e5) (e4 .field .result) (e3 .field2 .result) (e2 .field3 .result)
-    (b8 .digits .result) (b7 .digits2 .result) (e4 .field .ensures) (e3 .field2 .ensures) (e2 .field3 .ensures) (ok-there b9) (b8 .digits .ensures)
-    (b7 .digits2 .ensures)
-    f (b1 .offset .result) (c .rest-float .result) (b5 .jam-product .ensures .1)
-    (subst (λ (w : ℕ). Jam w (2 ^ 55) f) (b6 .product .ensures) (b5 .jam-product .ensures .0))
-    (subst (λ (w : Bool). b1 .offset .result ≡ cond w (2 ^ 51 - f) (2 ^ 51 + f)) sign (b1 .offset .ensures)) (c .rest-float .ensures)
+    (b7 .digits .result) (b6 .digits2 .result) (e4 .field .ensures) (e3 .field2 .ensures) (e2 .field3 .ensures) (ok-there b8) (b7 .digits .ensures)
+    (b6 .digits2 .ensures)
+    (b1 .opposite .result) f (c .rest-float .result) sign (subst (λ (w : ℕ). Jam w (2 ^ 55) f) (b5 .product .ensures) (b4 .jam-product .ensures .0))
+    (b4 .jam-product .ensures .1) (c .rest-float .ensures)
 
 pub unguided-spec : {M : Type 1} → statement M
 unguided-spec =
     tie.close
     (tie.spec float-to-bits-bx float-to-bits-by (search needs) (search needs) float-to-bits-field (search needs) far-above-requires
     fused-numbers-requires returns (search needs) (search needs) (search needs) jam-product-requires (search needs) (search needs)
-    (search needs) offset-requires add-rest-float sub-rest-float rest-float-requires returns-2)
+    (search needs) add-rest-float add-rest-float-2 sub-rest-float rest-float-requires returns-2)

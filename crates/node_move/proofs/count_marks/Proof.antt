@@ -6,7 +6,6 @@ use native.Mathlib.Omega.{arith}
 use denote.Ref.{now}
 use Rattle.mesh.specs.Counting.{countBelow, count-on, count-off, count-bound}
 use Rattle.scatter.specs.Renewal.{marked}
-use borrow.Author.Needs.{needs}
 use Rattle.node_move.proofs.count_marks.Statement.{statement}
 use Rattle.node_move.proofs.count_marks.Tie as tie
 
@@ -41,4 +40,4 @@ returns c =
 pub count-marks-spec : {M : Type 1} → statement M
 count-marks-spec =
     tie.close
-    (tie.spec Inv-loop μ-loop loop-holds (search needs) add-t (search needs) (search needs) loop-again returns)
+    (tie.spec Inv-loop μ-loop loop-holds (λ c. omega arith) add-t (λ c. omega arith) (λ c. omega arith) loop-again returns)

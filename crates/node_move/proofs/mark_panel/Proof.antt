@@ -1,5 +1,6 @@
 -- A panel that holds v is marked, another one adds no mark.
 use mathlib.Core.Path.{sym, _∙_}
+use native.Mathlib.Omega.{arith}
 use mathlib.Core.Bool.{or-false}
 use denote.Ref.{now}
 use Rattle.scatter.specs.Renewal.{marked}
@@ -16,4 +17,4 @@ returns-2 c a = rw (sym (c .before .holds .ensures) ∙ c .if1 .left) (sym (or-f
 pub mark-panel-spec : {M : Type 1} → statement M
 mark-panel-spec =
     tie.close
-    (tie.spec (search needs) (search needs) (search needs) returns returns-2)
+    (tie.spec (λ c κs. tt) (search needs) (λ c. omega arith) returns returns-2)

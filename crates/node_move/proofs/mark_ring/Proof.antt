@@ -62,4 +62,4 @@ returns c k =
 pub mark-ring-spec : {M : Type 1} → statement M
 mark-ring-spec =
     tie.close
-    (tie.spec Inv-loop μ-loop loop-holds (search needs) mark-panel-requires (search needs) (search needs) loop-again same-length returns)
+    (tie.spec Inv-loop μ-loop loop-holds (λ c κs. (omega arith, omega arith, omega arith)) mark-panel-requires (λ c. omega arith) (λ c. omega arith) loop-again same-length returns)

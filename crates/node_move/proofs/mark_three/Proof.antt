@@ -1,4 +1,5 @@
 -- The three writes, by the law of three marks.
+use native.Mathlib.Omega.{arith}
 use denote.Ref.{now}
 use Rattle.node_move.proofs.Marks.{three-marks}
 use borrow.Author.Needs.{needs}
@@ -17,4 +18,4 @@ returns c = three-marks (now (c .args .marks)) (c .args .t2) (c .pre)
 pub mark-three-spec : {M : Type 1} → statement M
 mark-three-spec =
     tie.close
-    (tie.spec (search needs) (search needs) (search needs) slice-write-marks-2 (search needs) slice-write-marks-3 (search needs) returns)
+    (tie.spec (λ c. omega arith) (search needs) (λ c. omega arith) slice-write-marks-2 (λ c. omega arith) slice-write-marks-3 (search needs) returns)

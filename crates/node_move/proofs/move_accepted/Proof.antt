@@ -1,4 +1,6 @@
 -- The marks are the ring, their count gives the count of the named cells, and the renewed matrix is that of the mesh as written.
+use mathlib.Core.Path.{refl}
+use Prim.Native.Nat.{ℕ, _≤_, _<_, _*_}
 use native.Mathlib.Nat.{lt-of-lt-of-le}
 use native.Mathlib.Omega.{arith}
 use denote.Ref.{now}
@@ -9,9 +11,15 @@ use Rattle.coupling.specs.Block.{mutualInductanceBlock}
 use Rattle.scatter.specs.Renewal.{marked}
 use Rattle.inductance.specs.Matrix.{cell}
 use Rattle.node_move.proofs.Laws.{ring-ready, moved-ready, move-done}
-use borrow.Author.Needs.{needs}
+use borrow.Author.Needs.{fits-under}
+use mir.Syntax.{w64}
+use mir.Val.{Fits}
 use Rattle.node_move.proofs.move_accepted.Statement.{statement}
 use Rattle.node_move.proofs.move_accepted.Tie as tie
+
+-- the place in bytes of an index below a count of at most 4096
+small-place : (v n : ℕ) → v < n → n ≤ 4096 → Fits w64 (v * 8)
+small-place v n p q = fits-under w64 (v * 8) 32768 (omega arith) tt
 
 mark-ring-requires : tie.Need-mark-ring-requires
 mark-ring-requires c κs =
@@ -19,16 +27,61 @@ mark-ring-requires c κs =
     let a = w .args in
     (record { t1-long = w .pre .panels-alike .t1-long; t2-long = w .pre .panels-alike .t2-long }, (ring-ready (meshOf (now (a .x)) (now (a .y)) (now (a .z)) (now (a .t0)) (now (a .t1)) (now (a .t2))) (now (a .out)) (a .v) (w .pre), lt-of-lt-of-le (w .pre .there) (w .pre .small)))
 
+mul-x : tie.Need-mul-x
+mul-x c =
+    let p = c .before .before .before .before .before .before .before .before .before .before .before .before .pre in
+    small-place _ _ (p .there) (p .small)
+
+slice-write-x : tie.Need-slice-write-x
+slice-write-x c =
+    let p = c .before .before .before .before .before .before .before .before .before .before .before .before .pre in
+    p .there
+
+mul-y : tie.Need-mul-y
+mul-y c =
+    let p = c .before .before .before .before .before .before .before .before .before .before .before .before .pre in
+    small-place _ _ (p .there) (p .small)
+
+slice-write-y : tie.Need-slice-write-y
+slice-write-y c =
+    let p = c .before .before .before .before .before .before .before .before .before .before .before .before .pre in
+    omega (arith, p .there, p .nodes-alike .ys-long)
+
+mul-z : tie.Need-mul-z
+mul-z c =
+    let p = c .before .before .before .before .before .before .before .before .before .before .before .before .pre in
+    small-place _ _ (p .there) (p .small)
+
+slice-write-z : tie.Need-slice-write-z
+slice-write-z c =
+    let p = c .before .before .before .before .before .before .before .before .before .before .before .before .pre in
+    omega (arith, p .there, p .nodes-alike .zs-long)
+
 renew-requires : tie.Need-renew-requires
 renew-requires c κs =
     let w = c .before .before .before .before .before .before .before .before .before .before .before .before .before .before .before .before .before in
     let a = w .args in
-    moved-ready (meshOf (now (a .x)) (now (a .y)) (now (a .z)) (now (a .t0)) (now (a .t1)) (now (a .t2))) (now (a .out)) (a .v) _ _ _ (c .before .before .before .before .before .before .before .before .mark-ring .last .0) (w .pre) (search needs)
+    moved-ready (meshOf (now (a .x)) (now (a .y)) (now (a .z)) (now (a .t0)) (now (a .t1)) (now (a .t2))) (now (a .out)) (a .v) _ _ _ (c .before .before .before .before .before .before .before .before .mark-ring .last .0) (w .pre) (omega (arith, w .pre .small))
 
 named-cells-requires : tie.Need-named-cells-requires
 named-cells-requires c κs =
     let w = c .before .before .before .before .before .before .before .before .before .before .before .before .before .before .before .before .before .before .before .before in
     (w .pre .small, omega (arith, count-bound (marked (c .before .before .before .before .before .before .before .before .before .before .before .mark-ring .last .0)) (length (now (w .args .x))), c .before .before .before .before .before .before .before .before .count-marks .ensures))
+
+same-length : tie.Need-same-length
+same-length c =
+    let a = c .before .before .before .before .before .before .before .before .before .before .before .before .before .before .before .before .before .before .before .before .before .args in
+    length-set (now (a .x)) (a .v) (a .px)
+
+same-length-2 : tie.Need-same-length-2
+same-length-2 c =
+    let a = c .before .before .before .before .before .before .before .before .before .before .before .before .before .before .before .before .before .before .before .before .before .args in
+    length-set (now (a .y)) (a .v) (a .py)
+
+same-length-3 : tie.Need-same-length-3
+same-length-3 c =
+    let a = c .before .before .before .before .before .before .before .before .before .before .before .before .before .before .before .before .before .before .before .before .before .args in
+    length-set (now (a .z)) (a .v) (a .pz)
 
 returns : tie.Need-returns
 returns c =
@@ -42,4 +95,4 @@ returns c =
 pub move-accepted-spec : {M : Type 1} → statement M
 move-accepted-spec =
     tie.close
-    (tie.spec (search needs) mark-ring-requires (search needs) (search needs) (search needs) (search needs) (search needs) (search needs) (search needs) (search needs) (search needs) renew-requires named-cells-requires (search needs) (search needs) (search needs) (search needs) returns)
+    (tie.spec (λ c. refl) mark-ring-requires (λ c. omega arith) (λ c κs. omega arith) mul-x slice-write-x mul-y slice-write-y mul-z slice-write-z (λ c. omega arith) renew-requires named-cells-requires same-length same-length-2 same-length-3 (λ c. omega arith) returns)

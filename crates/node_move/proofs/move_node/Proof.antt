@@ -3,7 +3,6 @@ use mathlib.Core.Path.{sym, _∙_}
 use denote.Ref.{now}
 use Rattle.mesh.specs.Mesh.{meshOf}
 use Rattle.node_move.proofs.Refused.{claim-known, claim-unknown}
-use borrow.Author.Needs.{needs}
 use Rattle.node_move.proofs.move_node.Statement.{statement}
 use Rattle.node_move.proofs.move_node.Tie as tie
 
@@ -20,4 +19,4 @@ returns-2 c =
 pub move-node-spec : {M : Type 1} → statement M
 move-node-spec =
     tie.close
-    (tie.spec (search needs) (search needs) (search needs) (search needs) (search needs) (search needs) (search needs) (search needs) returns returns-2)
+    (tie.spec (λ c κs. tt) (λ c. c .match .keys1) (λ c κs. tt) (λ c. c .match .keys2) (λ c. c .before .before .before .before .before .before .before .before .move-under .kept .1 .0) (λ c. c .before .before .before .before .before .before .before .before .move-under .kept .1 .1 .0) (λ c. c .before .before .before .before .before .before .before .before .move-under .kept .1 .1 .1 .0) (λ c. c .before .before .before .before .before .before .before .before .move-under .kept .1 .1 .1 .1 .1 .1 .1 .0) returns returns-2)

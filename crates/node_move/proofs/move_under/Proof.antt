@@ -1,12 +1,12 @@
 -- A refusal leaves everything as it was; a move that is done is ready, and its own claim is that of the call.
-use mathlib.Core.Path.{sym, _∙_}
+use native.Mathlib.Omega.{arith}
+use mathlib.Core.Path.{sym, _∙_, refl}
 use denote.Ref.{now}
 use Rattle.mesh.specs.Mesh.{Mesh, meshOf}
 use Rattle.coupling.specs.Block.{mutualInductanceBlock}
 use Rattle.inductance.specs.Matrix.{cell, matrix}
 use Rattle.node_move.proofs.Laws.{move-fresh}
 use Rattle.node_move.proofs.Refused.{ready, claim-refused, claim-done}
-use borrow.Author.Needs.{needs}
 use Rattle.node_move.proofs.move_under.Statement.{statement}
 use Rattle.node_move.proofs.move_under.Tie as tie
 
@@ -30,4 +30,4 @@ returns-2 c =
 pub move-under-spec : {M : Type 1} → statement M
 move-under-spec =
     tie.close
-    (tie.spec (search needs) (search needs) (search needs) (search needs) returns move-accepted-requires (search needs) (search needs) (search needs) (search needs) returns-2)
+    (tie.spec (λ c κs. tt) (λ c. refl) (λ c. refl) (λ c. refl) returns move-accepted-requires (λ c. omega arith) (λ c. omega arith) (λ c. omega arith) (λ c. omega arith) returns-2)

@@ -3,7 +3,6 @@ use mathlib.Core.Path.{refl}
 use Prim.Native.Nat.{_≤_, _*_}
 use native.Mathlib.Omega.{arith}
 use native.Mathlib.Nat.{mul-le-mul, mul-le-mul-right}
-use borrow.Author.Needs.{needs}
 use Rattle.node_move.proofs.named_cells.Statement.{statement}
 use Rattle.node_move.proofs.named_cells.Tie as tie
 
@@ -29,4 +28,4 @@ returns c = refl
 pub named-cells-spec : {M : Type 1} → statement M
 named-cells-spec =
     tie.close
-    (tie.spec (search needs) mul-twice-2 mul-result sub-result returns)
+    (tie.spec (λ c. omega arith) mul-twice-2 mul-result sub-result returns)

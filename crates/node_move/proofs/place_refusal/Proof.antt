@@ -8,7 +8,6 @@ use Rattle.mesh.specs.Mesh.{Mesh, meshOf, maxNodes, maxPanels}
 use Rattle.mesh.proofs.Refusals.{numbered, mesh-stopped, mesh-passed}
 use Rattle.inductance.proofs.Ready.{few-cells}
 use Rattle.node_move.specs.Move.{placeChecks, placeRefusal}
-use borrow.Author.Needs.{needs}
 use Rattle.node_move.proofs.place_refusal.Statement.{statement}
 use Rattle.node_move.proofs.place_refusal.Tie as tie
 
@@ -63,4 +62,4 @@ returns-5 c =
 pub place-refusal-spec : {M : Type 1} → statement M
 place-refusal-spec =
     tie.close
-    (tie.spec (search needs) returns mul-if2 returns-2 returns-3 some-zero-area-moved-requires returns-4 returns-5)
+    (tie.spec (λ c κs. tt) returns mul-if2 returns-2 returns-3 some-zero-area-moved-requires returns-4 returns-5)

@@ -51,4 +51,4 @@ returns-2 c =
 pub some-zero-area-moved-spec : {M : Type 1} → statement M
 some-zero-area-moved-spec =
     tie.close
-    (tie.spec Inv-loop μ-loop loop-holds triangle-nodes-moved-requires (search needs) returns (search needs) (search needs) loop-again returns-2)
+    (tie.spec Inv-loop μ-loop loop-holds triangle-nodes-moved-requires (λ c κs. tt) returns (λ c. omega arith) (λ c. omega arith) loop-again returns-2)

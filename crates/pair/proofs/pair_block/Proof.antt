@@ -1,5 +1,4 @@
 -- The coupling of the corners, and densities that are those of the corners because both panels are known.
-use borrow.Author.Needs.{needs}
 use Rattle.coupling.specs.Block.{mutualInductanceBlock}
 use Rattle.pair.specs.Pair as Spec
 use Rattle.pair.proofs.Kept.{kept-densities}
@@ -24,4 +23,4 @@ returns c =
     )
 
 pub pair-block-spec : {M : Type 1} → statement M
-pair-block-spec = tie.close (tie.spec pair-coupling-requires (search needs) (search needs) (search needs) returns)
+pair-block-spec = tie.close (tie.spec pair-coupling-requires (λ c κs. tt) (λ c κs. tt) (λ c κs. tt) returns)

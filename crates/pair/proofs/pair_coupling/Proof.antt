@@ -1,11 +1,11 @@
 -- The kept numbers are those of the corners, so the test is isFar; then the shared sums are the far rule, or the kept record's integral is the near rule.
 use mathlib.Core.Path.{_≡_}
-use borrow.Author.Needs.{needs}
 use Rattle.tri.proofs.Counts.{count-between}
 use Rattle.coupling.specs.Coupling.{isFar, geometricCoupling}
+use Rattle.panel_points.specs.Points.{triangle}
 use Rattle.pair.specs.Pair as Spec
 use Rattle.pair.proofs.Kept.{kept-area, which-is, source-points, source-uniform}
-use Rattle.pair.proofs.Symmetric.{symmetric}
+use Rattle.far_rule.proofs.Symmetric.{symmetric}
 use Rattle.pair.proofs.pair_coupling.Statement.{statement}
 use Rattle.pair.proofs.pair_coupling.Tie as tie
 
@@ -24,7 +24,7 @@ returns c =
     let s = w .args .s in
     let t = w .args .t in
     let q = w .pre .0 in
-    let f : b5 .is-far .result ≡ isFar (Spec.triangle (s .panel .corners)) (Spec.triangle (t .corners)) =
+    let f : b5 .is-far .result ≡ isFar (triangle (s .panel .corners)) (triangle (t .corners)) =
     rw (b5 .is-far .ensures, b6 .three2 .ensures, b7 .box-distance-squared .ensures, b8 .max .ensures, b9 .three .ensures)
     (which-is (s .panel) t (unfold Spec.KnownSource in q .0) (w .pre .1)) in
     rw (
@@ -46,7 +46,7 @@ returns-2 c =
     let s = w .args .s in
     let t = w .args .t in
     let q = w .pre .0 in
-    let f : b3 .is-far .result ≡ isFar (Spec.triangle (s .panel .corners)) (Spec.triangle (t .corners)) =
+    let f : b3 .is-far .result ≡ isFar (triangle (s .panel .corners)) (triangle (t .corners)) =
     rw (b3 .is-far .ensures, b4 .three2 .ensures, b5 .box-distance-squared .ensures, b6 .max .ensures, b7 .three .ensures)
     (which-is (s .panel) t (unfold Spec.KnownSource in q .0) (w .pre .1)) in
     rw (← f, b2 .if1 .left, c .triangle-geometric-coupling-exact-fixed .ensures, b7 .three .ensures, source-uniform (w .args .kind) s q)
@@ -54,5 +54,4 @@ returns-2 c =
 pub pair-coupling-spec : {M : Type 1} → statement M
 pair-coupling-spec =
     tie.close
-    (tie.spec (search needs) (search needs) (search needs) (search needs) (search needs) (search needs) (search needs)
-    far-coupling-requires returns (search needs) returns-2)
+    (tie.spec (λ c κs. tt) (λ c κs. tt) (λ c κs. tt) (λ c κs. tt) (λ c κs. tt) (λ c κs. tt) (λ c κs. tt) far-coupling-requires returns (λ c κs. tt) returns-2)

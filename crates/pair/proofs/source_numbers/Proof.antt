@@ -1,6 +1,5 @@
 -- The points and the record of the panel's triangle, by the contracts of the calls.
 use Rattle.pair.specs.Pair as Spec
-use borrow.Author.Needs.{needs}
 use Rattle.pair.proofs.source_numbers.Statement.{statement}
 use Rattle.pair.proofs.source_numbers.Tie as tie
 
@@ -13,4 +12,4 @@ returns c =
 pub source-numbers-spec : {M : Type 1} → statement M
 source-numbers-spec =
     tie.close
-    (tie.spec (search needs) (search needs) (search needs) returns)
+    (tie.spec (λ c κs. tt) (λ c κs. tt) (λ c κs. tt) returns)

@@ -1,6 +1,5 @@
 -- Difference, length, tangent and outward vector, by their contracts.
 use Rattle.potential.specs.Potential as Spec
-use borrow.Author.Needs.{needs}
 use Rattle.potential.proofs.edge_between.Statement.{statement}
 use Rattle.potential.proofs.edge_between.Tie as tie
 
@@ -13,4 +12,4 @@ returns c =
 pub edge-between-spec : {M : Type 1} → statement M
 edge-between-spec =
     tie.close
-    (tie.spec (search needs) (search needs) (search needs) (search needs) returns)
+    (tie.spec (λ c κs. tt) (λ c κs. tt) (λ c κs. tt) (λ c κs. tt) returns)

@@ -1,6 +1,5 @@
 -- The branch taken decides the definition's test; both values by their contracts.
 use Rattle.potential.specs.Potential as Spec
-use borrow.Author.Needs.{needs}
 use Rattle.potential.proofs.line_integral.Statement.{statement}
 use Rattle.potential.proofs.line_integral.Tie as tie
 
@@ -19,4 +18,4 @@ returns-2 c =
 pub line-integral-spec : {M : Type 1} → statement M
 line-integral-spec =
     tie.close
-    (tie.spec (search needs) (search needs) returns (search needs) returns-2)
+    (tie.spec (λ c κs. tt) (λ c κs. tt) returns (λ c κs. tt) returns-2)

@@ -1,6 +1,5 @@
 -- Norms, triple product and inner products, by their contracts.
 use Rattle.potential.specs.Potential as Spec
-use borrow.Author.Needs.{needs}
 use Rattle.potential.proofs.solid_angle.Statement.{statement}
 use Rattle.potential.proofs.solid_angle.Tie as tie
 
@@ -24,5 +23,4 @@ returns c =
 pub solid-angle-spec : {M : Type 1} → statement M
 solid-angle-spec =
     tie.close
-    (tie.spec (search needs) (search needs) (search needs) (search needs) (search needs) (search needs)
-    (search needs) (search needs) (search needs) returns)
+    (tie.spec (λ c κs. tt) (λ c κs. tt) (λ c κs. tt) (λ c κs. tt) (λ c κs. tt) (λ c κs. tt) (λ c κs. tt) (λ c κs. tt) (λ c κs. tt) returns)

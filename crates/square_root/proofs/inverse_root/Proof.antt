@@ -1,5 +1,6 @@
--- Two steps by the contract of `newton`; neither pattern is a NaN’s.
+-- The float expression itself; neither pattern is a NaN’s.
 use borrow.Author.Needs.{needs}
+use mathlib.Core.Path.{refl}
 use native.Mathlib.Omega.{arith}
 use Prim.Native.Nat.{_-_, _/_}
 use Rattle.binary64.proofs.Pattern.{no-nan}
@@ -15,9 +16,7 @@ float-from-bits-y c = no-nan (0x5fe6_eb50_c7b5_37a9 - c .args .b / 2) (omega ari
 
 returns : tie.Need-returns
 unfolding Estimate.inverseRoot
-returns c = rw (c .newton2 .ensures, c .before .newton .ensures)
+returns c = refl
 
 pub inverse-root-spec : {M : Type 1} → statement M
-inverse-root-spec =
-    tie.close
-    (tie.spec float-from-bits-h (search needs) float-from-bits-y (search needs) (search needs) returns)
+inverse-root-spec = tie.close (tie.spec float-from-bits-h (search needs) float-from-bits-y returns)

@@ -1,41 +1,60 @@
--- As in triangle_scalar_potential_regular: the sum over the first k rows, with one row more a turn.
-use mathlib.Core.Path.{_≡_, refl}
-use Prim.Native.Nat.{_≤_, _-_}
-use native.Mathlib.Omega.{arith}
-use borrow.Author.Needs.{needs}
+-- The sum over the seven places is the integral's sum over the rule's rows, term by term: a place has its row's weight and the potential at its row's point.
+use mathlib.Core.Path.{_≡_, refl, sym, ap, _∙_}
+use mathlib.Core.List.{List}
+use Prim.Native.Nat.{ℕ, _<_}
+use native.Mathlib.Nat.{lt-of-lt-of-le}
+use lib.Ieee.{Float}
+use Rattle.binary64.specs.Binary64.{at, _⊗_}
+use Rattle.tri.specs.Mapping.{Tri, area, mapPoint}
+use Rattle.tri.specs.Quadrature.{quadratureRow, quadratureCount}
+use Rattle.tri.specs.declared.quadrature.QuadratureKind.{QuadratureKind}
 use Rattle.potential.specs.Potential.{scalarPotential}
+use Rattle.potential.specs.Seven.{point}
+use Rattle.potential.specs.declared.UniformTriangle.{UniformTriangle}
+use Rattle.panel_points.specs.declared.Points.{Points}
+use Rattle.panel_points.specs.Points.{coordinates, triangle, pointsOf, sumTo}
+use Rattle.panel_points.proofs.Places.{few, weight-at, point-at, sum-same}
 use Rattle.coupling.specs.Coupling as Spec
+use Rattle.coupling.proofs.Rows.{rows-sum}
 use Rattle.coupling.proofs.coupling.triangle_geometric_coupling_exact_directed.Statement.{statement}
 use Rattle.coupling.proofs.coupling.triangle_geometric_coupling_exact_directed.Tie as tie
 
-abbrev Inv-loop : tie.InvT-loop
-Inv-loop source target kind target-area count out₀ k₀ out k = (k ≤ count) × (out ≡ Spec.rowsTo kind (Spec.integralRow target target-area (scalarPotential source)) k)
+-- the corners come back from the nine numbers
+mapped-back : (t : Tri) (u v : Float) → mapPoint (triangle (coordinates t)) u v ≡ mapPoint t u v
+unfolding mapPoint triangle coordinates
+mapped-back t u v = refl
 
-abbrev μ-loop : tie.MeasureT-loop
-μ-loop source target kind target-area count out₀ k₀ out k = count - k
+module _ (source : UniformTriangle) (t : Tri) (kind : QuadratureKind) where
+  abbrev at-points : Points
+  at-points = pointsOf kind (coordinates t) (area t)
 
-loop-holds : tie.Need-loop-holds Inv-loop μ-loop
-unfolding Spec.rowsTo
-loop-holds c = (omega arith, refl)
+  term : (pot : List Float) → ((i : ℕ) → i < 7 → at pot i ≡ scalarPotential source (point (at-points .x) (at-points .y) (at-points .z) i)) → (j : ℕ) → j < quadratureCount kind
+      → at (at-points .w) j ⊗ at pot j ≡ Spec.integralRow t (area t) (scalarPotential source) (quadratureRow kind j)
+  unfolding Spec.integralRow
+  term pot all j h =
+      rw (weight-at kind (coordinates t) (area t) j h, all j (lt-of-lt-of-le h (few kind)), point-at kind (coordinates t) (area t) j h, mapped-back t (at (quadratureRow kind j) 1) (at (quadratureRow kind j) 2))
 
-quadrature-row-requires : tie.Need-quadrature-row-requires Inv-loop μ-loop
-quadrature-row-requires c κs = rw (← c .before .before .quadrature-count .ensures) (c .loop-test .taken)
+  leaf : (pot : List Float) → ((i : ℕ) → i < 7 → at pot i ≡ scalarPotential source (point (at-points .x) (at-points .y) (at-points .z) i))
+      → sumTo (λ (j : ℕ). at (at-points .w) j ⊗ at pot j) (quadratureCount kind) ≡ Spec.triangleGeometricCouplingExactDirected source t kind
+  unfolding Spec.triangleGeometricCouplingExactDirected
+  leaf pot all =
+      sum-same _ (λ (j : ℕ). Spec.integralRow t (area t) (scalarPotential source) (quadratureRow kind j)) (quadratureCount kind) (term pot all)
+      ∙ sym (rows-sum kind (Spec.integralRow t (area t) (scalarPotential source)) (quadratureCount kind))
 
-loop-again : tie.Need-loop-again Inv-loop μ-loop
-loop-again c =
-    let l = c .before .before .before .loop in
-    (search needs, rw (Spec.rows-more, ← l .inv .1, c .exact-row .ensures, c .before .quadrature-row .ensures))
+weighted-requires : tie.Need-weighted-requires
+weighted-requires c κs = rw (c .before .quadrature-count .ensures) (few _)
 
-returns : tie.Need-returns Inv-loop μ-loop
-unfolding Spec.triangleGeometricCouplingExactDirected
+returns : tie.Need-returns
 returns c =
-    let l = c .before .loop in
-    let n = c .before .before .quadrature-count in
-    let e : l .k ≡ n .result = omega arith in
-    rw (l .inv .1, e, n .ensures, c .before .before .before .area .ensures)
+    let b1 = c .before in let b2 = b1 .before in let b7 = b2 .before .before .before .before .before in let b8 = b7 .before in let b9 = b8 .before in
+    let a = b9 .before .args in
+    let pot = b1 .scalar-potentials .result in
+    let e : b7 .points-of .result ≡ pointsOf (a .kind) (coordinates (a .target)) (area (a .target)) = rw (b7 .points-of .ensures, b8 .area .ensures, b9 .nine .ensures) in
+    c .weighted .ensures
+    ∙ ap (sumTo (λ (j : ℕ). at (b7 .points-of .result .w) j ⊗ at pot j)) (b2 .quadrature-count .ensures)
+    ∙ ap (λ (q : Points). sumTo (λ (j : ℕ). at (q .w) j ⊗ at pot j) (quadratureCount (a .kind))) e
+    ∙ leaf (a .source) (a .target) (a .kind) pot (λ i h. b1 .scalar-potentials .ensures i h ∙ ap (λ (q : Points). scalarPotential (a .source) (point (q .x) (q .y) (q .z) i)) e)
 
 pub triangle-geometric-coupling-exact-directed-spec : {M : Type 1} → statement M
 triangle-geometric-coupling-exact-directed-spec =
-    tie.close
-    (tie.spec Inv-loop μ-loop (search needs) (search needs) loop-holds quadrature-row-requires (search needs)
-    (search needs) (search needs) loop-again returns)
+    tie.close (tie.spec (λ c κs. tt) (λ c κs. tt) (λ c κs. tt) (λ c κs. tt) (λ c κs. tt) weighted-requires returns)

@@ -2,7 +2,7 @@
 use native.Mathlib.Omega.{arith}
 use borrow.Author.Tests.{lt-ltb, le-ltb}
 use borrow.Author.Needs.{needs}
-use Rattle.oracle_replay.specs.Words.{sizeOf}
+use Rattle.replay_words.specs.Words.{sizeOf}
 use Rattle.oracle_replay.proofs.case.size.Statement.{statement}
 use Rattle.oracle_replay.proofs.case.size.Tie as tie
 

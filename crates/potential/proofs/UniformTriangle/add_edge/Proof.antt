@@ -1,6 +1,6 @@
 -- h by its contracts, then the branch taken; the vector and h that are at hand are those that edgeIntegral works out again.
+use native.Mathlib.Omega.{arith}
 use Rattle.potential.specs.Potential as Spec
-use borrow.Author.Needs.{needs}
 use Rattle.potential.proofs.UniformTriangle.add_edge.Statement.{statement}
 use Rattle.potential.proofs.UniformTriangle.add_edge.Tie as tie
 
@@ -33,4 +33,4 @@ returns-2 c =
 pub add-edge-spec : {M : Type 1} → statement M
 add-edge-spec =
     tie.close
-    (tie.spec (search needs) (search needs) (search needs) (search needs) returns (search needs) returns-2)
+    (tie.spec (λ c κs. omega arith) (λ c κs. tt) (λ c κs. omega arith) (λ c κs. tt) returns (λ c κs. omega arith) returns-2)

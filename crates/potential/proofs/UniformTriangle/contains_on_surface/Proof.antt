@@ -1,6 +1,5 @@
 -- Closest point, difference, norm and larger of two, by their contracts; `norm_squared3` is dot3 of the difference with itself.
 use Rattle.potential.specs.Potential as Spec
-use borrow.Author.Needs.{needs}
 use Rattle.potential.proofs.UniformTriangle.contains_on_surface.Statement.{statement}
 use Rattle.potential.proofs.UniformTriangle.contains_on_surface.Tie as tie
 
@@ -21,5 +20,4 @@ returns c =
 pub contains-on-surface-spec : {M : Type 1} → statement M
 contains-on-surface-spec =
     tie.close
-    (tie.spec (search needs) (search needs) (search needs) (search needs) (search needs) (search needs)
-    returns)
+    (tie.spec (λ c κs. tt) (λ c κs. tt) (λ c κs. tt) (λ c κs. tt) (λ c κs. tt) (λ c κs. tt) returns)

@@ -1,6 +1,6 @@
 -- One difference and one inner product, by their contracts.
+use native.Mathlib.Omega.{arith}
 use Rattle.potential.specs.Potential as Spec
-use borrow.Author.Needs.{needs}
 use Rattle.potential.proofs.UniformTriangle.distance_from_plane.Statement.{statement}
 use Rattle.potential.proofs.UniformTriangle.distance_from_plane.Tie as tie
 
@@ -13,4 +13,4 @@ returns c =
 pub distance-from-plane-spec : {M : Type 1} → statement M
 distance-from-plane-spec =
     tie.close
-    (tie.spec (search needs) (search needs) (search needs) returns)
+    (tie.spec (λ c κs. omega arith) (λ c κs. tt) (λ c κs. tt) returns)

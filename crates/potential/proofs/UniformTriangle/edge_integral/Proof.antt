@@ -1,6 +1,6 @@
 -- The vector to the edge's first node and h, by their contracts.
+use native.Mathlib.Omega.{arith}
 use Rattle.potential.specs.Potential as Spec
-use borrow.Author.Needs.{needs}
 use Rattle.potential.proofs.UniformTriangle.edge_integral.Statement.{statement}
 use Rattle.potential.proofs.UniformTriangle.edge_integral.Tie as tie
 
@@ -19,4 +19,4 @@ returns c =
 pub edge-integral-spec : {M : Type 1} → statement M
 edge-integral-spec =
     tie.close
-    (tie.spec (search needs) (search needs) (search needs) (search needs) (search needs) returns)
+    (tie.spec (λ c κs. omega arith) (λ c κs. tt) (λ c κs. omega arith) (λ c κs. tt) (λ c κs. omega arith) returns)

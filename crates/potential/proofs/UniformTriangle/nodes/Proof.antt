@@ -1,6 +1,6 @@
 -- The three vectors of the nine numbers, by their contracts.
+use native.Mathlib.Omega.{arith}
 use Rattle.potential.specs.Potential as Spec
-use borrow.Author.Needs.{needs}
 use Rattle.potential.proofs.UniformTriangle.nodes.Statement.{statement}
 use Rattle.potential.proofs.UniformTriangle.nodes.Tie as tie
 
@@ -13,4 +13,4 @@ returns c =
 pub nodes-spec : {M : Type 1} → statement M
 nodes-spec =
     tie.close
-    (tie.spec (search needs) (search needs) (search needs) returns)
+    (tie.spec (λ c κs. omega arith) (λ c κs. omega arith) (λ c κs. omega arith) returns)

@@ -1,6 +1,6 @@
 -- The three edges and the solid angle, by their contracts, the last call first.
+use native.Mathlib.Omega.{arith}
 use Rattle.potential.specs.Potential as Spec
-use borrow.Author.Needs.{needs}
 use Rattle.potential.proofs.UniformTriangle.scalar_potential.Statement.{statement}
 use Rattle.potential.proofs.UniformTriangle.scalar_potential.Tie as tie
 
@@ -9,7 +9,7 @@ unfolding Spec.scalarPotential
 returns c =
     let b1 = c .before in let b2 = b1 .before in let b3 = b2 .before in let b4 = b3 .before in
     rw (
-      c .signed-solid-angle .ensures,
+      c .less-solid-angle .ensures,
       b1 .add-edge3 .ensures,
       b2 .add-edge2 .ensures,
       b3 .add-edge .ensures,
@@ -19,4 +19,4 @@ returns c =
 pub scalar-potential-spec : {M : Type 1} → statement M
 scalar-potential-spec =
     tie.close
-    (tie.spec (search needs) (search needs) (search needs) (search needs) (search needs) returns)
+    (tie.spec (λ c κs. tt) (λ c κs. omega arith) (λ c κs. omega arith) (λ c κs. omega arith) (λ c κs. tt) returns)

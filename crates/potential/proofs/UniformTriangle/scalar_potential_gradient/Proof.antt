@@ -1,6 +1,6 @@
 -- The three edges and the solid angle, by their contracts, the last call first.
+use native.Mathlib.Omega.{arith}
 use Rattle.potential.specs.Potential as Spec
-use borrow.Author.Needs.{needs}
 use Rattle.potential.proofs.UniformTriangle.scalar_potential_gradient.Statement.{statement}
 use Rattle.potential.proofs.UniformTriangle.scalar_potential_gradient.Tie as tie
 
@@ -21,5 +21,4 @@ returns c =
 pub scalar-potential-gradient-spec : {M : Type 1} → statement M
 scalar-potential-gradient-spec =
     tie.close
-    (tie.spec (search needs) (search needs) (search needs) (search needs) (search needs) (search needs)
-    returns)
+    (tie.spec (λ c κs. tt) (λ c κs. omega arith) (λ c κs. omega arith) (λ c κs. omega arith) (λ c κs. tt) (λ c κs. tt) returns)

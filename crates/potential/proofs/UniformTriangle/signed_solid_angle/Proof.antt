@@ -1,6 +1,6 @@
 -- The three vectors to the point, by their contracts.
+use native.Mathlib.Omega.{arith}
 use Rattle.potential.specs.Potential as Spec
-use borrow.Author.Needs.{needs}
 use Rattle.potential.proofs.UniformTriangle.signed_solid_angle.Statement.{statement}
 use Rattle.potential.proofs.UniformTriangle.signed_solid_angle.Tie as tie
 
@@ -22,5 +22,4 @@ returns c =
 pub signed-solid-angle-spec : {M : Type 1} → statement M
 signed-solid-angle-spec =
     tie.close
-    (tie.spec (search needs) (search needs) (search needs) (search needs) (search needs) (search needs)
-    (search needs) returns)
+    (tie.spec (λ c κs. omega arith) (λ c κs. tt) (λ c κs. omega arith) (λ c κs. tt) (λ c κs. omega arith) (λ c κs. tt) (λ c κs. tt) returns)

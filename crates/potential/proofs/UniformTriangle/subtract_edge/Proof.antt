@@ -1,6 +1,6 @@
 -- The edge's integral scales its outward vector, by their contracts.
+use native.Mathlib.Omega.{arith}
 use Rattle.potential.specs.Potential as Spec
-use borrow.Author.Needs.{needs}
 use Rattle.potential.proofs.UniformTriangle.subtract_edge.Statement.{statement}
 use Rattle.potential.proofs.UniformTriangle.subtract_edge.Tie as tie
 
@@ -13,4 +13,4 @@ returns c =
 pub subtract-edge-spec : {M : Type 1} → statement M
 subtract-edge-spec =
     tie.close
-    (tie.spec (search needs) (search needs) (search needs) returns)
+    (tie.spec (λ c κs. omega arith) (λ c κs. omega arith) (λ c κs. tt) returns)

@@ -7,4 +7,4 @@ returns : tie.Need-returns
 returns c = search needs
 
 pub screens-display-spec : {M : Type 1} → statement M
-screens-display-spec = tie.close (tie.spec (search needs) returns)
+screens-display-spec = tie.close (tie.spec (λ c κs. tt) returns)

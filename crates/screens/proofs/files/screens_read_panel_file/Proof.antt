@@ -1,5 +1,5 @@
 -- The call's own contract.
-use borrow.Author.Needs.{needs}
+use native.Mathlib.Omega.{arith}
 use Rattle.screens.proofs.files.screens_read_panel_file.Statement.{statement}
 use Rattle.screens.proofs.files.screens_read_panel_file.Tie as tie
 
@@ -7,4 +7,4 @@ returns : tie.Need-returns
 returns c = c .before .before .before .before .before .before .before .before .before .before .before .before .read-panel-file .ensures
 
 pub screens-read-panel-file-spec : {M : Type 1} → statement M
-screens-read-panel-file-spec = tie.close (tie.spec (search needs) (search needs) (search needs) (search needs) (search needs) (search needs) (search needs) returns)
+screens-read-panel-file-spec = tie.close (tie.spec (λ c κs. tt) (λ c. omega arith) (λ c. omega arith) (λ c. omega arith) (λ c. omega arith) (λ c. omega arith) (λ c. omega arith) returns)

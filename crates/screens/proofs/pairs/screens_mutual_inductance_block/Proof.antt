@@ -1,5 +1,5 @@
 -- The answer's refusal is the call's; without one `write9` decides.
-use borrow.Author.Needs.{needs}
+use native.Mathlib.Omega.{arith}
 use Rattle.screens.proofs.Block.{stopped, passed}
 use Rattle.screens.proofs.pairs.screens_mutual_inductance_block.Statement.{statement}
 use Rattle.screens.proofs.pairs.screens_mutual_inductance_block.Tie as tie
@@ -13,4 +13,4 @@ returns-2 c =
     passed _ _ _ _ _ (w .before .before .before .before .before .triangle-basis-mutual-inductance-block .ensures) (w .before .before .before .if1 .left) (w .write9 .ensures)
 
 pub screens-mutual-inductance-block-spec : {M : Type 1} → statement M
-screens-mutual-inductance-block-spec = tie.close (tie.spec (search needs) returns (search needs) (search needs) returns-2)
+screens-mutual-inductance-block-spec = tie.close (tie.spec (λ c κs. tt) returns (λ c κs. tt) (λ c. omega arith) returns-2)

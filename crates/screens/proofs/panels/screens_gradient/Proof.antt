@@ -1,5 +1,5 @@
 -- `write3`'s claims, with the method's contract put in, and the record's into that.
-use borrow.Author.Needs.{needs}
+use native.Mathlib.Omega.{arith}
 use Rattle.screens.proofs.panels.screens_gradient.Statement.{statement}
 use Rattle.screens.proofs.panels.screens_gradient.Tie as tie
 
@@ -10,4 +10,4 @@ returns c =
     rw (← g .before .new .ensures, ← g .scalar-potential-gradient .ensures) (w .write3 .ensures)
 
 pub screens-gradient-spec : {M : Type 1} → statement M
-screens-gradient-spec = tie.close (tie.spec (search needs) (search needs) (search needs) (search needs) returns)
+screens-gradient-spec = tie.close (tie.spec (λ c κs. tt) (λ c κs. tt) (λ c κs. tt) (λ c. omega arith) returns)

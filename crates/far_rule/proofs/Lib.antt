@@ -1,0 +1,4 @@
+pub mod Mirror
+pub mod Sums
+pub mod Symmetric
+pub mod Rows

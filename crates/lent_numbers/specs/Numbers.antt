@@ -1,0 +1,39 @@
+-- Vectors, triangles and a panel's record as single numbers, and what a call that writes numbers answers and leaves. Definitions only.
+use Prim.Native.Nat.{ℕ}
+use mathlib.Core.Path.{_≡_}
+use mathlib.Core.Bool.{cond}
+use mathlib.Core.List.{List, [], _∷_, _++_}
+use lib.Dec.{eqb}
+use lib.ListN.{length, getD}
+use lib.Ieee.{Float}
+use Rattle.binary64.specs.Binary64.{at}
+use Rattle.mesh.specs.Refusal.{after, outputLength}
+use Rattle.mesh.specs.Filling.{tabulate}
+use Rattle.potential.specs.declared.UniformTriangle.{UniformTriangle}
+
+-- three vectors, one after the other
+unfoldable pub rowsOf : List (List Float) → List Float
+rowsOf b = tabulate 3 (at (getD b 0 [])) ++ tabulate 3 (at (getD b 1 [])) ++ tabulate 3 (at (getD b 2 []))
+
+-- two triangles, one after the other
+unfoldable pub halvesOf : List (List (List Float)) → List Float
+halvesOf h = rowsOf (getD h 0 []) ++ rowsOf (getD h 1 [])
+
+-- corners, normal, edge tangents, outward edges, edge lengths, longest edge
+unfoldable pub recordNumbers : UniformTriangle → List Float
+recordNumbers p =
+    tabulate 9 (at (p .nodes))
+    ++ tabulate 3 (at (p .normal))
+    ++ tabulate 9 (at (p .«edge_tangent»))
+    ++ tabulate 9 (at (p .«edge_outward»))
+    ++ tabulate 3 (at (p .«edge_length»))
+    ++ (p .«max_edge» ∷ [])
+
+-- number 6, output, where the length is not the one due
+unfoldable pub outputRefusal : ℕ → ℕ → ℕ
+outputRefusal due given = cond (eqb given due) 0 outputLength
+
+-- what a call answers that writes n numbers v to a lent buffer, and what it leaves there
+pub record Wrote (n : ℕ) (v out : List Float) (r : ℕ) (out' : List Float) : Type 0 where
+  pub number : r ≡ outputRefusal n (length out)
+  pub buffer : out' ≡ after r v out

@@ -1,0 +1,27 @@
+-- A case's words, numbers and places, from its bytes. Definitions only.
+use mathlib.Core.List.{List}
+use Prim.Native.Nat.{ℕ, _*_}
+use lib.ListN.{getD}
+use lib.Ieee.{Float}
+use Rattle.binary64.specs.Binary64.{bits}
+use Rattle.mesh.specs.Filling.{tabulate}
+use Rattle.panel_file.specs.LittleEndian.{littleEndian}
+
+abbrev pub wordAt : List ℕ → ℕ → ℕ
+wordAt b k = littleEndian 8 b (k * 8)
+
+abbrev pub numberAt : List ℕ → ℕ → Float
+numberAt w k = bits (getD w k 0)
+
+abbrev pub placeAt : List ℕ → ℕ → ℕ
+placeAt w k = getD w k 0
+
+-- 512 of each
+unfoldable pub wordsOf : List ℕ → List ℕ
+wordsOf b = tabulate 512 (wordAt b)
+
+unfoldable pub numbersOf : List ℕ → List Float
+numbersOf w = tabulate 512 (numberAt w)
+
+unfoldable pub placesOf : List ℕ → List ℕ
+placesOf w = tabulate 512 (placeAt w)

@@ -1,0 +1,12 @@
+-- The call's answer is the one due, field by field.
+use borrow.Author.Needs.{needs}
+use Rattle.replay_maps.proofs.rows.row_map.Statement.{statement}
+use Rattle.replay_maps.proofs.rows.row_map.Tie as tie
+
+returns : tie.Need-returns
+returns c =
+    let e = c .before .screens-map-row .ensures in
+    rw (← c .before .before .before .before .before .before .before .before .size-at .ensures .0, ← e .refusal, ← e .begins, ← e .long) (c .same-place .ensures)
+
+pub row-map-spec : {M : Type 1} → statement M
+row-map-spec = tie.close (tie.spec (search needs) (search needs) (search needs) (search needs) (search needs) (search needs) (search needs) (search needs) returns)

@@ -1,0 +1,46 @@
+// Rows: the length of the matrix or map, its width and a node; the answer is a number, where the row begins and how long it is.
+ghost use mathlib.Core.Path.{_≡_};
+ghost use Rattle.replay_maps.specs.Maps as Spec;
+use replay_words::words::same_place;
+use replay_words::words::size_at;
+
+pub fn row_matrix(f: &[f64; 512], w: &[u64; 512]) -> bool
+    ensures { λ r. ⌜ r ≡ Spec.rowMatrix (now (f .entry)) (now (w .entry)) ⌝ }
+{
+    let size = size_at(w, 0);
+    let n = w[1] as usize;
+    let node = w[2] as usize;
+    let all = &f[..];
+    let matrix = &all[0..size];
+    let mut offset = 0usize;
+    let mut length = 0usize;
+    let r = screens::assembly::screens_matrix_row(matrix, n, node, &mut offset, &mut length);
+    same_place(r, offset, length, w, 3)
+}
+
+pub fn row_map(f: &[f64; 512], w: &[u64; 512]) -> bool
+    ensures { λ r. ⌜ r ≡ Spec.rowMap (now (f .entry)) (now (w .entry)) ⌝ }
+{
+    let size = size_at(w, 0);
+    let n = w[1] as usize;
+    let node = w[2] as usize;
+    let all = &f[..];
+    let map = &all[0..size];
+    let mut offset = 0usize;
+    let mut length = 0usize;
+    let r = screens::assembly::screens_map_row(map, n, node, &mut offset, &mut length);
+    same_place(r, offset, length, w, 3)
+}
+
+// By the kind's number.
+pub fn agree(kind: u64, f: &[f64; 512], w: &[u64; 512]) -> bool
+    ensures { λ r. ⌜ r ≡ Spec.rowsAgree kind (now (f .entry)) (now (w .entry)) ⌝ }
+{
+    if kind == 31 {
+        return row_matrix(f, w);
+    }
+    if kind == 32 {
+        return row_map(f, w);
+    }
+    false
+}

@@ -1,0 +1,78 @@
+-- What a move leaves, in the form that lent buffers are compared in: what is due if it is done, what was there on a refusal. The claim has the two cases apart; here
+-- they are joined by the number.
+use mathlib.Core.Path.{_≡_, ap, refl, sym, _∙_}
+use mathlib.Core.Bool.{Bool, true, false, cond}
+use mathlib.Core.List.{List}
+use Prim.Native.Nat.{ℕ, _+_}
+use borrow.Author.Tests.{eqb-true, eqb-false}
+use lib.Dec.{eqb}
+use lib.ListN.{length, getD}
+use lib.Ieee.{Float}
+use Rattle.mesh.specs.Refusal.{after, after-done, after-refused}
+use Rattle.binary64.specs.Binary64.{at}
+use Rattle.tri.specs.Quadrature.{quadratureRule}
+use Rattle.mesh.specs.Mesh.{Mesh, meshOf, nnode}
+use Rattle.inductance.specs.Matrix.{cell, matrix}
+use Rattle.inductance.specs.Assembly.{blockUnder}
+use Rattle.scatter.specs.Entries.{same}
+use Rattle.scatter.specs.Renewal.{renewed}
+use Rattle.node_move.specs.Move.{moved, ring, namedCount, moveRefusal, MoveClaim}
+use Rattle.replay_words.specs.Words.{cutAt, part, vectorAt}
+use Rattle.replay_move.specs.Move.{leftAsDue, moveInto, moveOf}
+
+-- a column or the matrix, by the two cases
+joined : {A : Type 0} (r : ℕ) (due held new : List A) → (r ≡ 0 → new ≡ due) → ((r ≡ 0 → ⊥) → new ≡ held) → new ≡ after r due held
+joined {A} r due held new d h = go (eqb r 0) refl
+  where
+    go : (t : Bool) → eqb r 0 ≡ t → new ≡ after r due held
+    go true e = let z = eqb-true r 0 e in d z ∙ sym (after-done r due held z)
+    go false e = let z = eqb-false r 0 e in h z ∙ sym (after-refused r due held z)
+
+counted : (r due new : ℕ) → (r ≡ 0 → new ≡ due) → ((r ≡ 0 → ⊥) → new ≡ 0) → new ≡ cond (eqb r 0) due 0
+counted r due new d h = go (eqb r 0) refl
+  where
+    go : (t : Bool) → eqb r 0 ≡ t → new ≡ cond (eqb r 0) due 0
+    go true e = rw e (d (eqb-true r 0 e))
+    go false e = rw e (h (eqb-false r 0 e))
+
+record Left (cellOf : Mesh → ℕ → ℕ → Float) (m : Mesh) (old : List Float) (v : ℕ) (px py pz : Float) (r count : ℕ) (m′ : Mesh) (new : List Float) : Type 0 where
+  pub total : count ≡ cond (eqb r 0) (namedCount (ring m (same v)) (nnode m)) 0
+  pub cells : new ≡ after r (renewed (ring m (same v)) (cellOf (moved m v px py pz)) (nnode m) old) old
+  pub x : m′ .xs ≡ after r (moved m v px py pz .xs) (m .xs)
+  pub y : m′ .ys ≡ after r (moved m v px py pz .ys) (m .ys)
+  pub z : m′ .zs ≡ after r (moved m v px py pz .zs) (m .zs)
+
+left : {cellOf : Mesh → ℕ → ℕ → Float} {matrixOf : Mesh → List Float} {refusal : ℕ} {m : Mesh} {old : List Float} {v : ℕ} {px py pz : Float} {r count : ℕ} {m′ : Mesh} {new : List Float}
+    → MoveClaim cellOf matrixOf refusal m old v px py pz r count m′ new → Left cellOf m old v px py pz r count m′ new
+left {r = r} h = record {
+  total = counted r _ _ (λ e. h .accepted e .total) (λ n. h .refused n .2);
+  cells = joined r _ _ _ (λ e. h .accepted e .cells) (λ n. h .refused n .1);
+  x = joined r _ _ _ (λ e. ap (λ (k : Mesh). k .xs) (h .accepted e .mesh)) (λ n. ap (λ (k : Mesh). k .xs) (h .refused n .0));
+  y = joined r _ _ _ (λ e. ap (λ (k : Mesh). k .ys) (h .accepted e .mesh)) (λ n. ap (λ (k : Mesh). k .ys) (h .refused n .0));
+  z = joined r _ _ _ (λ e. ap (λ (k : Mesh). k .zs) (h .accepted e .mesh)) (λ n. ap (λ (k : Mesh). k .zs) (h .refused n .0));
+}
+
+-- what is compared, of a move whose copies are what the case has
+pub compared : (number : ℕ) (p : List Float) (w : List ℕ) (k : ℕ) (t0 t1 t2 : List ℕ) {x y z x0 y0 z0 : List Float} {cells cells0 : List Float} {v r count : ℕ} {x' y' z' new : List Float} {b : Bool}
+    → (x ≡ x0) × (y ≡ y0) × (z ≡ z0) × (cells ≡ cells0)
+    → MoveClaim (cell (blockUnder (quadratureRule number))) (matrix (blockUnder (quadratureRule number))) (moveRefusal (quadratureRule number) (meshOf x y z t0 t1 t2) (length cells) v (at p 0) (at p 1) (at p 2)) (meshOf x y z t0 t1 t2) cells v (at p 0) (at p 1) (at p 2) r count (meshOf x' y' z' t0 t1 t2) new
+    → b ≡ leftAsDue r count x' y' z' new x0 y0 z0 cells0 w k
+    → b ≡ moveInto number (meshOf x y z t0 t1 t2) cells v p w k
+unfolding moveInto
+compared number p w k t0 t1 t2 s h e =
+    let l = left h in
+    let f = rw (← s .0, ← s .1, ← s .2, ← s .3) at e in
+    rw (← h .number, ← l .total, ← l .cells, ← l .x, ← l .y, ← l .z) f
+
+-- the move on copies that are what the case has, with what stands behind the mesh
+pub behind-mesh : (rule : ℕ) (f : List Float) (w : List ℕ) (g n : ℕ) (p : List Float) (t0 t1 t2 : List ℕ) {x y z x' y' z' cells' : List Float} {b : Bool}
+    → n ≡ cutAt w g 128
+    → p ≡ vectorAt f (g + 2 + n)
+    → x' ≡ x
+    → y' ≡ y
+    → z' ≡ z
+    → cells' ≡ part f (g + 1) (g + 1 + n)
+    → b ≡ moveInto rule (meshOf x' y' z' t0 t1 t2) cells' (getD w (g + 1 + n) 0) p w (g + 5 + n)
+    → b ≡ moveOf rule (meshOf x y z t0 t1 t2) f w g
+unfolding moveOf
+behind-mesh rule f w g n p t0 t1 t2 hn hp hx hy hz hc e = rw (← hn, ← hp, ← hx, ← hy, ← hz, ← hc) e

@@ -1,0 +1,147 @@
+// The move of a node: behind the mesh stand the matrix, the node and its new place. The call is lent copies of what it changes.
+ghost use mathlib.Core.Path.{_≡_};
+ghost use Prim.Native.Nat.{_+_, _≤_};
+ghost use lib.ListN.{length};
+ghost use Rattle.mesh.specs.Mesh.{meshOf};
+ghost use Rattle.replay_move.specs.Move as Spec;
+use replay_words::buffers::kept;
+use replay_words::copies::copied;
+use replay_words::words::cut_at;
+use replay_words::words::same_count;
+use replay_words::words::vector;
+
+// Three columns after the call, and before it.
+fn kept_columns(
+    refusal: u32,
+    x: &[f64],
+    y: &[f64],
+    z: &[f64],
+    x0: &[f64],
+    y0: &[f64],
+    z0: &[f64],
+    w: &[u64; 512],
+    k: usize,
+) -> bool
+    requires { ⌜ k + length (now x) + length (now y) + length (now z) ≤ 512 ⌝ }
+    requires { ⌜ (length (now x) ≡ length (now x0)) × (length (now y) ≡ length (now y0)) × (length (now z) ≡ length (now z0)) ⌝ }
+    ensures { λ r. ⌜ r ≡ Spec.keptColumns refusal (now (x .entry)) (now (y .entry)) (now (z .entry)) (now (x0 .entry)) (now (y0 .entry)) (now (z0 .entry)) (now (w .entry)) k ⌝ }
+{
+    let p = k + x.len();
+    let q = p + y.len();
+    let a = kept(refusal, x, x0, w, k);
+    let b = kept(refusal, y, y0, w, p);
+    let c = kept(refusal, z, z0, w, q);
+    (a) & ((b) & (c))
+}
+
+// Number, count, matrix and columns after the call, and matrix and columns before it.
+fn left_as_due(
+    refusal: u32,
+    count: usize,
+    x: &[f64],
+    y: &[f64],
+    z: &[f64],
+    cells: &[f64],
+    x0: &[f64],
+    y0: &[f64],
+    z0: &[f64],
+    cells0: &[f64],
+    w: &[u64; 512],
+    k: usize,
+) -> bool
+    requires { ⌜ k + 2 + length (now cells) + length (now x) + length (now y) + length (now z) ≤ 512 ⌝ }
+    requires { ⌜ (length (now x) ≡ length (now x0)) × (length (now y) ≡ length (now y0)) × (length (now z) ≡ length (now z0)) × (length (now cells) ≡ length (now cells0)) ⌝ }
+    ensures { λ r. ⌜ r ≡ Spec.leftAsDue refusal count (now (x .entry)) (now (y .entry)) (now (z .entry)) (now (cells .entry)) (now (x0 .entry)) (now (y0 .entry)) (now (z0 .entry)) (now (cells0 .entry)) (now (w .entry)) k ⌝ }
+{
+    let p = k + 2 + cells.len();
+    let a = same_count(refusal, count, w, k);
+    let b = kept(refusal, cells, cells0, w, k + 2);
+    let c = kept_columns(refusal, x, y, z, x0, y0, z0, w, p);
+    (a) & ((b) & (c))
+}
+
+// The call on copies, compared.
+fn move_into(
+    rule: u32,
+    x: &mut [f64],
+    y: &mut [f64],
+    z: &mut [f64],
+    t0: &[usize],
+    t1: &[usize],
+    t2: &[usize],
+    cells: &mut [f64],
+    node: usize,
+    place: [f64; 3],
+    x0: &[f64],
+    y0: &[f64],
+    z0: &[f64],
+    cells0: &[f64],
+    w: &[u64; 512],
+    k: usize,
+) -> bool
+    requires { ⌜ k + 2 + length (now cells0) + length (now x0) + length (now y0) + length (now z0) ≤ 512 ⌝ }
+    requires { ⌜ (now x ≡ now x0) × (now y ≡ now y0) × (now z ≡ now z0) × (now cells ≡ now cells0) ⌝ }
+    ensures { λ r. ⌜ r ≡ Spec.moveInto rule (meshOf (now (x .entry)) (now (y .entry)) (now (z .entry)) (now (t0 .entry)) (now (t1 .entry)) (now (t2 .entry))) (now (cells .entry)) node place (now (w .entry)) k ⌝ }
+{
+    let moved = node_move::move_node(
+        rule,
+        x,
+        y,
+        z,
+        t0,
+        t1,
+        t2,
+        cells,
+        node,
+        place[0],
+        place[1],
+        place[2],
+    );
+    let refusal = moved.refusal;
+    let count = moved.count;
+    left_as_due(refusal, count, x, y, z, cells, x0, y0, z0, cells0, w, k)
+}
+
+pub fn move_of(
+    rule: u32,
+    x: &[f64],
+    y: &[f64],
+    z: &[f64],
+    t0: &[usize],
+    t1: &[usize],
+    t2: &[usize],
+    f: &[f64; 512],
+    w: &[u64; 512],
+    g: usize,
+) -> bool
+    requires { ⌜ (g ≤ 130) × (length (now x) ≤ 20) × (length (now y) ≤ 20) × (length (now z) ≤ 20) ⌝ }
+    ensures { λ r. ⌜ r ≡ Spec.moveOf rule (meshOf (now (x .entry)) (now (y .entry)) (now (z .entry)) (now (t0 .entry)) (now (t1 .entry)) (now (t2 .entry))) (now (f .entry)) (now (w .entry)) g ⌝ }
+{
+    let n = cut_at(w, g, 128);
+    let all = &f[..];
+    let cells = &all[g + 1..g + 1 + n];
+    let node = w[g + 1 + n] as usize;
+    let place = vector(f, g + 2 + n);
+    let mut xs = copied(x);
+    let mut ys = copied(y);
+    let mut zs = copied(z);
+    let mut cs = copied(cells);
+    move_into(
+        rule,
+        &mut xs[0..x.len()],
+        &mut ys[0..y.len()],
+        &mut zs[0..z.len()],
+        t0,
+        t1,
+        t2,
+        &mut cs[0..cells.len()],
+        node,
+        place,
+        x,
+        y,
+        z,
+        cells,
+        w,
+        g + 5 + n,
+    )
+}

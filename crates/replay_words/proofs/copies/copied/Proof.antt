@@ -1,0 +1,40 @@
+-- The first i numbers of the copy are those of v.
+use mathlib.Core.Path.{_≡_, refl}
+use Prim.Native.Nat.{_≤_, _<_, _-_}
+use native.Mathlib.Omega.{arith}
+use mir.Syntax.{w64}
+use borrow.Author.Needs.{needs, fits-under}
+use denote.Ref.{now}
+use lib.ListN.{length, take, length-set}
+use lib.Ieee.{nan}
+use Rattle.replay_words.proofs.Copy.{copy-more, copy-whole}
+use Rattle.replay_words.proofs.copies.copied.Statement.{statement}
+use Rattle.replay_words.proofs.copies.copied.Tie as tie
+
+abbrev Inv-loop : tie.InvT-loop
+Inv-loop v copy₀ i₀ copy i = (i ≤ length v) × (length copy ≡ 128) × (take i copy ≡ take i v)
+
+abbrev μ-loop : tie.MeasureT-loop
+μ-loop v copy₀ i₀ copy i = length v - i
+
+loop-holds : tie.Need-loop-holds Inv-loop μ-loop
+loop-holds c = (search needs, search needs, refl)
+
+loop-again : tie.Need-loop-again Inv-loop μ-loop
+loop-again c =
+    let l = c .before .before .loop in
+    let v = now (c .before .before .before .args .v) in
+    let h : l .i < length v = omega arith in
+    let r : l .i < length (l .copy) = omega arith in
+    (search needs, search needs, copy-more v (l .copy) (l .i) nan h r (l .inv .2))
+
+returns : tie.Need-returns Inv-loop μ-loop
+returns c =
+    let l = c .before .loop in
+    let e : l .i ≡ length (now (c .before .before .args .v)) = omega arith in
+    copy-whole _ _ _ e (l .inv .2)
+
+pub copied-spec : {M : Type 1} → statement M
+copied-spec =
+    tie.close
+    (tie.spec Inv-loop μ-loop loop-holds (λ c. fits-under w64 _ 4096 (omega arith) tt) (search needs) (λ c. fits-under w64 _ 4096 (omega arith) tt) (λ c. omega arith) (λ c. fits-under w64 _ 4096 (omega arith) tt) (λ c. omega arith) loop-again returns)

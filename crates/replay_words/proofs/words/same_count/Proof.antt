@@ -1,0 +1,14 @@
+-- Two comparisons.
+use native.Mathlib.Omega.{arith}
+use mir.Syntax.{w64}
+use borrow.Author.Needs.{needs, fits-under}
+use Rattle.replay_words.specs.Words.{sameCount}
+use Rattle.replay_words.proofs.words.same_count.Statement.{statement}
+use Rattle.replay_words.proofs.words.same_count.Tie as tie
+
+returns : tie.Need-returns
+unfolding sameCount
+returns c = rw (← c .before .same-word .ensures, ← c .same-word2 .ensures)
+
+pub same-count-spec : {M : Type 1} → statement M
+same-count-spec = tie.close (tie.spec (search needs) (λ c. fits-under w64 _ 4096 (omega arith) tt) (search needs) returns)

@@ -1,0 +1,14 @@
+-- Three comparisons.
+use native.Mathlib.Omega.{arith}
+use mir.Syntax.{w64}
+use borrow.Author.Needs.{needs, fits-under}
+use Rattle.replay_words.specs.Words.{samePlace}
+use Rattle.replay_words.proofs.words.same_place.Statement.{statement}
+use Rattle.replay_words.proofs.words.same_place.Tie as tie
+
+returns : tie.Need-returns
+unfolding samePlace
+returns c = rw (← c .before .before .same-word .ensures, ← c .before .same-word2 .ensures, ← c .same-word3 .ensures)
+
+pub same-place-spec : {M : Type 1} → statement M
+same-place-spec = tie.close (tie.spec (search needs) (λ c. fits-under w64 _ 4096 (omega arith) tt) (search needs) (λ c. fits-under w64 _ 4096 (omega arith) tt) (search needs) returns)

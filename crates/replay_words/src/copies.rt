@@ -1,0 +1,19 @@
+// Numbers that a call may change, copied from the case.
+ghost use mathlib.Core.Path.{_≡_};
+ghost use Prim.Native.Nat.{_≤_};
+ghost use lib.ListN.{length};
+ghost use Rattle.replay_words.specs.Words.{part};
+
+// The numbers, at the front of as many as the longest column or matrix has.
+pub fn copied(v: &[f64]) -> [f64; 128]
+    requires { ⌜ length (now v) ≤ 128 ⌝ }
+    ensures { λ r. ⌜ part r 0 (length (now (v .entry))) ≡ now (v .entry) ⌝ }
+{
+    let mut copy = [0.0f64; 128];
+    let mut i = 0;
+    while i < v.len() {
+        copy[i] = v[i];
+        i += 1;
+    }
+    copy
+}
