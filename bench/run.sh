@@ -1,9 +1,9 @@
 #!/usr/bin/env bash
-# usage: run.sh SOURCE [matrix [RULES [SIZES]] | moves [COUNT] | record [RULES [SIZES]]]
+# usage: run.sh SOURCE [matrix [RULES [SIZES [ROUNDS]]] | moves [COUNT] | record [RULES [SIZES [ROUNDS]]]]
 # Proves and builds our static library, builds the original in SOURCE for any x86-64 and for this processor, and times ours,
 # the processor's own operations and the two builds of the original in one run. Prints a table. With `matrix` the table is of
 # fresh matrices and moves of whole screens, with `moves` runs of moves are compared cell by cell. With `record` it measures
-# the arithmetic, whole screens (rules 12345 and 3 sizes if not said otherwise), stack and memory, prints the tables and
+# the arithmetic, whole screens (rules 12345, 3 sizes and medians of 5 rounds if not said otherwise), stack and memory, prints the tables and
 # writes them to docs/PERFORMANCE.md between its two marks.
 set -eu
 here=$(cd "$(dirname "$0")" && pwd)
@@ -34,8 +34,8 @@ tables() {
   printf '%s; %s, load %s at the start.\n\n### Arithmetic\n\n' "$(date -u +%Y-%m-%d)" \
     "$(sed -n 's/^model name[^:]*: //p' /proc/cpuinfo | head -n 1)" "$(cut -d ' ' -f 1 /proc/loadavg)"
   driver
-  printf '\n### Whole screens\n\nSeconds of thread time, one measurement each; the move is of a node in the middle.\n\n'
-  driver matrix "$1" "$2"
+  printf '\n### Whole screens\n\nSeconds of thread time, medians of %s; spread is the widest of the three times of a row; the move is of a node in the middle.\n\n' "$3"
+  driver matrix "$1" "$2" "$3"
   printf '\n### Stack and memory\n\n'
   footprint
 }
@@ -52,7 +52,7 @@ record() {
 }
 
 if [ "${2:-}" = record ]; then
-  tables "${3:-12345}" "${4:-3}" | tee "$here/build/tables.md"
+  tables "${3:-12345}" "${4:-3}" "${5:-5}" | tee "$here/build/tables.md"
   record "$here/build/tables.md"
 else
   driver "${@:2}"

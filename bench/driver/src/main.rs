@@ -180,6 +180,7 @@ fn main() {
                 native_matrix,
                 &rules,
                 what.get(2).map_or(3, |s| s.parse().expect("sizes")),
+                what.get(3).map_or(5, |s| s.parse().expect("rounds")),
             );
         }
         Some("moves") => return screens::moves(native_matrix, what.get(1).map_or(50, |s| s.parse().expect("moves"))),

@@ -164,43 +164,122 @@ fn timed(run: impl FnOnce()) -> f64 {
 
 const SIZES: [(usize, usize); 3] = [(20, 15), (40, 25), (50, 40)];
 
-/// Seconds of thread time for a fresh matrix and for a move of a node in the middle, one measurement each.
-pub fn table(portable: Matrix, native: Matrix, rules: &[u32], sizes: usize) {
+/// The middle of some times.
+fn median(times: &mut [f64]) -> f64 {
+    times.sort_by(f64::total_cmp);
+    times[times.len() / 2]
+}
+
+/// One line of the table: ours, the two builds of the original and our move, each measured `rounds` times in turn.
+struct Measured {
+    ours: f64,
+    portable: f64,
+    native: f64,
+    moved: f64,
+    spread: f64,
+    differ: usize,
+}
+
+fn measure(screen: &Screen, rule: u32, builds: [Matrix; 2], node: usize, rounds: usize) -> Measured {
+    let n = screen.count();
+    let (mut ours, mut due) = (vec![f64::NAN; n * n], vec![f64::NAN; n * n]);
+    let mut times: [Vec<f64>; 4] = Default::default();
+    let mut differ = 0;
+    for _ in 0..rounds {
+        times[0].push(timed(|| screen.ours(rule, &mut ours)));
+        for (run, list) in builds.into_iter().zip([1, 2]) {
+            times[list].push(timed(|| screen.original(run, rule, &mut due)));
+            differ += differing(&ours, &due);
+        }
+        let mut moved = screen.clone();
+        let [x, y, z] = moved.nodes.each_ref().map(|c| c[node]);
+        times[3].push(timed(|| {
+            moved.move_node(rule, &mut ours, node, [x + 0.1, y - 0.1, z + 0.05]);
+        }));
+        moved.original(builds[1], rule, &mut due);
+        differ += differing(&ours, &due);
+    }
+    let [ours, portable, native, moved] = times.each_mut().map(|list| median(list));
+    let spread = times[..3]
+        .iter()
+        .map(|t| (t[t.len() - 1] - t[0]) / t[0])
+        .fold(0.0, f64::max);
+    Measured {
+        ours,
+        portable,
+        native,
+        moved,
+        spread,
+        differ,
+    }
+}
+
+/// The exponent of n in times that grow as a power of it: the least squares of the logarithms.
+fn exponent(points: &[(f64, f64)]) -> f64 {
+    let k = points.len() as f64;
+    let (x, y) = points
+        .iter()
+        .fold((0.0, 0.0), |(a, b), (n, t)| (a + n.ln() / k, b + t.ln() / k));
+    let (up, down) = points.iter().fold((0.0, 0.0), |(a, b), (n, t)| {
+        let d = n.ln() - x;
+        (a + d * (t.ln() - y), b + d * d)
+    });
+    up / down
+}
+
+/// Seconds of thread time for a fresh matrix and for a move of a node in the middle, medians of some rounds, and the exponents
+/// of their growth with the number of nodes.
+pub fn table(portable: Matrix, native: Matrix, rules: &[u32], sizes: usize, rounds: usize) {
     println!(
-        "| screen | rule | ours, s | Rust portable, s | Rust native, s | ours/portable | ours/native | our move, s | move/portable | cells differ |"
+        "| screen | rule | ours, s | Rust portable, s | Rust native, s | ours/portable | ours/native | our move, s | move/portable | move/native | spread | cells differ |"
     );
-    println!("|---|--:|--:|--:|--:|--:|--:|--:|--:|--:|");
+    println!("|---|--:|--:|--:|--:|--:|--:|--:|--:|--:|--:|--:|");
+    let mut growth = Vec::new();
     for (width, height) in &SIZES[..sizes] {
         for bent in [false, true] {
             let screen = Screen::new(*width, *height, bent);
             let n = screen.count();
-            let (mut ours, mut due) = (vec![f64::NAN; n * n], vec![f64::NAN; n * n]);
+            let kind = if bent { "bent" } else { "flat" };
             for &rule in rules {
-                let a = timed(|| screen.ours(rule, &mut ours));
-                let b = timed(|| screen.original(portable, rule, &mut due));
-                let mut differ = differing(&ours, &due);
-                let c = timed(|| screen.original(native, rule, &mut due));
-                differ += differing(&ours, &due);
-                let mut moved = screen.clone();
-                let node = n / 2 + width / 2;
-                let place = [
-                    moved.nodes[0][node] + 0.1,
-                    moved.nodes[1][node] - 0.1,
-                    moved.nodes[2][node] + 0.05,
-                ];
-                let d = timed(|| {
-                    moved.move_node(rule, &mut ours, node, place);
-                });
-                moved.original(native, rule, &mut due);
-                differ += differing(&ours, &due);
+                let m = measure(&screen, rule, [portable, native], n / 2 + width / 2, rounds);
                 println!(
-                    "| {n} nodes, {} | {rule} | {a:.2} | {b:.2} | {c:.2} | {:.2} | {:.2} | {d:.3} | 1/{:.0} | {differ} |",
-                    if bent { "bent" } else { "flat" },
-                    a / b,
-                    a / c,
-                    b / d
+                    "| {n} nodes, {kind} | {rule} | {:.2} | {:.2} | {:.2} | {:.2} | {:.2} | {:.3} | 1/{:.0} | 1/{:.0} | {:.0} % | {} |",
+                    m.ours,
+                    m.portable,
+                    m.native,
+                    m.ours / m.portable,
+                    m.ours / m.native,
+                    m.moved,
+                    m.portable / m.moved,
+                    m.native / m.moved,
+                    m.spread * 100.0,
+                    m.differ
                 );
+                growth.push((kind, rule, n as f64, m));
             }
+        }
+    }
+    if sizes < 2 {
+        return;
+    }
+    println!("\nGrowth with the number of nodes, the exponent fitted over the sizes above:\n");
+    println!("| screen | rule | our matrix | Rust portable | our move |\n|---|--:|--:|--:|--:|");
+    for kind in ["flat", "bent"] {
+        for &rule in rules {
+            let fit = |time: fn(&Measured) -> f64| {
+                let of: Vec<_> = growth
+                    .iter()
+                    .filter(|g| g.0 == kind && g.1 == rule)
+                    .map(|g| (g.2, time(&g.3)))
+                    .collect();
+                exponent(&of)
+            };
+            println!(
+                "| {kind} | {rule} | {:.2} | {:.2} | {:.2} |",
+                fit(|m| m.ours),
+                fit(|m| m.portable),
+                fit(|m| m.moved)
+            );
         }
     }
 }
