@@ -1,20 +1,12 @@
--- What a call that is done has: an accepted mesh and outputs of the length due, and for densities a nodal value for each node.
-use mathlib.Core.Path.{_≡_, refl}
-use mathlib.Core.Bool.{Bool, true, false, not, _||_, true≢false}
+-- What a call that is done has: an accepted mesh, a nodal value for each node and outputs of one number a panel.
+use mathlib.Core.Path.{_≡_}
 use mathlib.Core.List.{List}
-use Prim.Native.Nat.{ℕ}
-use borrow.Author.Tests.{eqb-true, not-false}
-use lib.Dec.{eqb}
 use lib.Ieee.{Float}
 use lib.ListN.{length}
 use Rattle.mesh.specs.Mesh.{Mesh, nnode, ntri, maxNodes, maxPanels}
 use Rattle.mesh.proofs.Refusals.{mesh-accepted, or-off}
-use Rattle.tri.specs.declared.quadrature.QuadratureKind.{QuadratureKind}
-use Rattle.boundary_element.specs.QuadraturePoints.{pointOutputsDiffer, pointChecks, pointsRefusal, PointsReady}
+use Rattle.mesh_points.proofs.Ready.{equal}
 use Rattle.boundary_element.specs.CurrentDensity.{outputsDiffer, densityChecks, densityRefusal, Ready}
-
-pub equal : (a b : ℕ) → not (eqb a b) ≡ false → a ≡ b
-equal a b e = eqb-true a b (not-false (eqb a b) e)
 
 pub ready : (m : Mesh) (s a b c : List Float) → densityRefusal m (length s) (length a) (length b) (length c) ≡ 0 → Ready m s a b c
 unfolding densityRefusal outputsDiffer
@@ -23,12 +15,3 @@ ready m s a b c e =
     let o = or-off _ _ (w .1 .1 .0) in
     let q = or-off _ _ (o .1) in
     record { accepted = w .0; values = equal _ _ (w .1 .0); first = equal _ _ (o .0); second = equal _ _ (q .0); third = equal _ _ (q .1) }
-
-pub points-ready : (kind : QuadratureKind) (m : Mesh) (a b c d : List Float) → pointsRefusal kind m (length a) (length b) (length c) (length d) ≡ 0 → PointsReady kind m a b c d
-unfolding pointsRefusal pointOutputsDiffer
-points-ready kind m a b c d e =
-    let w = mesh-accepted maxNodes maxPanels m (pointChecks kind (ntri m) (length a) (length b) (length c) (length d)) tt e in
-    let o = or-off _ _ (w .1 .0) in
-    let q = or-off _ _ (o .1) in
-    let r = or-off _ _ (q .1) in
-    record { accepted = w .0; x = equal _ _ (o .0); y = equal _ _ (q .0); z = equal _ _ (r .0); weights = equal _ _ (r .1) }

@@ -4,10 +4,11 @@ use crate::distance::triangle_aabb_distance_squared;
 use crate::distance::triangle_distance_squared;
 use crate::distance::triangle_max_edge_squared;
 use panel_points::nine;
-use panel_points::points_of;
+use panel_points::points_by;
+use panel_points::rows_of;
 use panel_points::weighted;
 use potential::UniformTriangle;
-use potential::seven::scalar_potentials;
+use potential_lanes::scalar_potentials;
 use tri::mapping::area;
 use tri::mapping::map_point;
 use tri::quadrature::QuadratureKind;
@@ -98,7 +99,7 @@ fn triangle_geometric_coupling_exact_directed(
 ) -> f64
     ensures { λ r. ⌜ r ≡ Spec.triangleGeometricCouplingExactDirected source target kind ⌝ }
 {
-    let points = points_of(kind, nine(target), area(target));
+    let points = points_by(rows_of(kind), nine(target), area(target));
     let x = points.x;
     let y = points.y;
     let z = points.z;

@@ -4,7 +4,4 @@ pub mod Exponent
 pub mod Parts
 pub mod Finite
 pub mod Decomposed
-pub mod Each
-pub mod Normal
 pub mod Bounded
-pub mod Angle

@@ -1,4 +1,3 @@
 -- The crate's definitions.
 pub mod Elementary
-pub mod Lanes
 pub mod Examples

@@ -6,15 +6,13 @@ ghost use lib.IntN.{subℕ};
 ghost use lib.Ieee.{binary64, ofInt, ofBits};
 ghost use Rattle.elementary.specs.Elementary as Spec;
 
-pub mod lanes;
+pub const LN_2: f64 = 0.6931471805599453;
 
-const LN_2: f64 = 0.6931471805599453;
+pub const SQRT_2: f64 = 1.4142135623730951;
 
-const SQRT_2: f64 = 1.4142135623730951;
+pub const C: f64 = 0.4142135623730951;
 
-const C: f64 = 0.4142135623730951;
-
-const PI: f64 = 3.141592653589793;
+pub const PI: f64 = 3.141592653589793;
 
 // 1/k for k = 45, 43 down to 1.
 const RECIPROCALS: [f64; 23] = [
@@ -68,7 +66,7 @@ fn horner_difference(z: f64) -> f64
 }
 
 // (t + t) × P(t × t)
-fn twice_artanh(t: f64) -> f64
+pub fn twice_artanh(t: f64) -> f64
     ensures { λ r. ⌜ r ≡ Spec.twiceArtanh t ⌝ }
 {
     (t + t) * horner_sum(t * t)
@@ -173,7 +171,7 @@ fn ratio(a: f64, b: f64) -> f64
     if a > b { b / a } else { a / b }
 }
 
-fn atan_at(b: f64, u: f64) -> f64
+pub fn atan_at(b: f64, u: f64) -> f64
     ensures { λ r. ⌜ r ≡ Spec.atanAt b u ⌝ }
 {
     b + u * horner_difference(u * u)
@@ -198,7 +196,7 @@ fn first_quadrant(a: f64, b: f64) -> f64
 }
 
 // π - r where s.
-fn supplement(s: bool, r: f64) -> f64
+pub fn supplement(s: bool, r: f64) -> f64
     ensures { λ y. ⌜ y ≡ Spec.supplement s r ⌝ }
 {
     if s { PI - r } else { r }

@@ -14,7 +14,7 @@ use Rattle.coupling.specs.Coupling.{isFar}
 use Rattle.pair.specs.declared.Panel.{Panel}
 use Rattle.pair.specs.declared.Source.{Source}
 use Rattle.nearness.specs.Which.{gapBetween, boxDistanceSquared, farBeyond}
-use Rattle.panel_points.specs.Points.{coordinates, triangle, pointsOf}
+use Rattle.panel_points.specs.Points.{coordinates, triangle, rowsOf, pointsOf}
 use Rattle.nearness.proofs.Nearness.{beyond-is}
 use Rattle.pair.specs.Pair.{panelNumbers, sourceNumbers, Known, KnownSource}
 
@@ -62,6 +62,10 @@ which-is s t k l =
     (and-turned (lt (limit s t) (triangleAabbDistanceSquared (triangle (s .corners)) (triangle (t .corners))) || lt (limit s t) (triangleDistanceSquared (triangle (s .corners)) (triangle (t .corners)))) (not (trianglesIdentical (triangle (s .corners)) (triangle (t .corners)))))
 
 -- ---- a source
+pub source-rows : (kind : QuadratureKind) (s : Source) → KnownSource kind s → s .rows ≡ rowsOf kind
+unfolding KnownSource sourceNumbers
+source-rows kind s k = ap (λ (q : Source). q .rows) (k .1)
+
 pub source-points : (kind : QuadratureKind) (s : Source) → KnownSource kind s → s .points ≡ pointsOf kind (s .panel .corners) (area (triangle (s .panel .corners)))
 unfolding KnownSource sourceNumbers
 source-points kind s k = ap (λ (q : Source). q .points) (k .1) ∙ ap (pointsOf kind (s .panel .corners)) (kept-area (s .panel) (k .0))

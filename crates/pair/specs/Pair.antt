@@ -13,7 +13,7 @@ use Rattle.potential.specs.Potential.{uniformTriangle}
 use Rattle.potential.specs.declared.UniformTriangle.{UniformTriangle}
 use Rattle.boundary_element.specs.CurrentDensity.{basisCurrentDensity, triangleBasisCurrentDensities}
 use Rattle.coupling.specs.Distance.{distanceSquared, lowest, highest, triangleMaxEdgeSquared}
-use Rattle.panel_points.specs.Points.{coordinates, triangle, pointsOf}
+use Rattle.panel_points.specs.Points.{coordinates, triangle, rowsOf, pointsOf}
 use Rattle.pair.specs.declared.Panel.{Panel}
 use Rattle.pair.specs.declared.Source.{Source}
 
@@ -31,6 +31,7 @@ panelNumbers t = record {
 unfoldable pub sourceNumbers : QuadratureKind → Panel → Source
 sourceNumbers kind p = record {
   panel = p;
+  rows = rowsOf kind;
   points = pointsOf kind (p .corners) (p .area);
   uniform = uniformTriangle (triangle (p .corners));
 }

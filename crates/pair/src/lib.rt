@@ -6,8 +6,10 @@ use coupling::distance::highest;
 use coupling::distance::lowest;
 use coupling::distance::triangle_max_edge_squared;
 use panel_points::Points;
+use panel_points::Rows;
 use panel_points::nine;
-use panel_points::points_of;
+use panel_points::points_by;
+use panel_points::rows_of;
 use panel_points::three;
 use potential::UniformTriangle;
 use tri::quadrature::QuadratureKind;
@@ -33,6 +35,7 @@ pub struct Panel {
 // A panel with what it needs besides as the source of a row of targets.
 pub struct Source {
     pub panel: Panel,
+    pub rows: Rows,
     pub points: Points,
     pub uniform: UniformTriangle,
 }
@@ -61,10 +64,12 @@ pub fn source_numbers(kind: QuadratureKind, p: Panel) -> Source
     ensures { λ r. ⌜ r ≡ Spec.sourceNumbers kind p ⌝ }
 {
     let corners = p.corners;
-    let points = points_of(kind, corners, p.area);
+    let rows = rows_of(kind);
+    let points = points_by(rows, corners, p.area);
     let uniform = UniformTriangle::new(three(corners));
     Source {
         panel: p,
+        rows,
         points,
         uniform,
     }
@@ -89,7 +94,8 @@ fn pair_coupling(kind: QuadratureKind, s: Source, t: Panel) -> f64
     let apart = nearness::box_distance_squared(alo, ahi, blo, bhi);
     if nearness::is_far(three(a), target, limit, apart) {
         let points = s.points;
-        return far_rule::far_coupling(quadrature_count(kind), points, points_of(kind, b, t.area));
+        let rows = s.rows;
+        return far_rule::far_coupling(quadrature_count(kind), points, points_by(rows, b, t.area));
     }
     let uniform = s.uniform;
     triangle_geometric_coupling_exact_fixed(uniform, target, COUPLING_NEAR_SUBDIVISION_DEPTH)

@@ -1,4 +1,4 @@
--- The points of a rule on a panel, in seven places for any rule, and sums over indices. Definitions, with the equations of those that recur.
+-- The rows of a rule and its points on a panel, in seven places for any rule, and sums over indices. Definitions, with the equations of those that recur.
 use mathlib.Core.Path.{_≡_}
 use Prim.Native.Nat.{ℕ, zero, suc, _+_}
 use mathlib.Core.List.{List, [], _∷_}
@@ -10,6 +10,7 @@ use Rattle.tri.specs.Mapping.{Tri, corner}
 use Rattle.tri.specs.Quadrature.{quadratureRow, quadratureCount}
 use Rattle.tri.specs.declared.quadrature.QuadratureKind.{QuadratureKind}
 use Rattle.panel_points.specs.declared.Points.{Points}
+use Rattle.panel_points.specs.declared.Rows.{Rows}
 
 -- ---- three vectors as nine numbers
 unfoldable pub coordinates : Tri → List Float
@@ -22,7 +23,7 @@ coordinates t =
 unfoldable pub triangle : List Float → Tri
 triangle v = (at v 0 ∷ at v 1 ∷ at v 2 ∷ []) ∷ (at v 3 ∷ at v 4 ∷ at v 5 ∷ []) ∷ (at v 6 ∷ at v 7 ∷ at v 8 ∷ []) ∷ []
 
--- ---- the points of a rule on a panel
+-- ---- seven places
 -- seven numbers, of which the first k are g's and the others +0
 unfoldable pub seven : (ℕ → Float) → ℕ → List Float
 seven g zero = plusZero ∷ plusZero ∷ plusZero ∷ plusZero ∷ plusZero ∷ plusZero ∷ plusZero ∷ []
@@ -32,32 +33,50 @@ pub seven-more : (g : ℕ → Float) (k : ℕ) → seven g (k + 1) ≡ set (seve
 unfolding seven
 seven-more g k = rw add-one
 
--- mapPoint's coordinate, of that coordinate of the corners and a row
-unfoldable pub mapped : Float → Float → Float → List Float → Float
-mapped a b c q = a ⊗ (one ⊖ at q 1 ⊖ at q 2) ⊕ b ⊗ at q 1 ⊕ c ⊗ at q 2
+-- ---- the rows of a rule
+-- the first corner's share of a point
+abbrev pub rest : List Float → Float
+rest q = one ⊖ at q 1 ⊖ at q 2
 
-abbrev pub mappedAt : QuadratureKind → Float → Float → Float → ℕ → Float
-mappedAt kind a b c k = mapped a b c (quadratureRow kind k)
+-- f of each row
+abbrev pub columnTo : QuadratureKind → (List Float → Float) → ℕ → List Float
+columnTo kind f = seven (λ (k : ℕ). f (quadratureRow kind k))
 
-abbrev pub weightAt : QuadratureKind → Float → ℕ → Float
-weightAt kind area k = at (quadratureRow kind k) 0 ⊗ area
+abbrev pub column : QuadratureKind → (List Float → Float) → List Float
+column kind f = columnTo kind f (quadratureCount kind)
 
-unfoldable pub along : QuadratureKind → Float → Float → Float → List Float
-along kind a b c = seven (mappedAt kind a b c) (quadratureCount kind)
+unfoldable pub rowsOf : QuadratureKind → Rows
+rowsOf kind = record {
+  first = column kind rest;
+  second = column kind (λ q. at q 1);
+  third = column kind (λ q. at q 2);
+  weight = column kind (λ q. at q 0);
+}
 
-unfoldable pub weights : QuadratureKind → Float → List Float
-weights kind area = seven (weightAt kind area) (quadratureCount kind)
+-- ---- the points of a rule on a panel
+-- mapPoint's coordinate at place k, of that coordinate of the corners and the corners' shares
+abbrev pub mixed : List Float → List Float → List Float → Float → Float → Float → ℕ → Float
+mixed first second third a b c k = a ⊗ at first k ⊕ b ⊗ at second k ⊕ c ⊗ at third k
+
+unfoldable pub along : List Float → List Float → List Float → Float → Float → Float → List Float
+along first second third a b c = seven (mixed first second third a b c) 7
+
+unfoldable pub weights : List Float → Float → List Float
+weights weight area = seven (λ (k : ℕ). at weight k ⊗ area) 7
 
 abbrev pub pointsAt : List Float → List Float → List Float → List Float → Points
 pointsAt x y z w = record { x = x; y = y; z = z; w = w }
 
-unfoldable pub pointsOf : QuadratureKind → List Float → Float → Points
-pointsOf kind v area = record {
-  x = along kind (at v 0) (at v 3) (at v 6);
-  y = along kind (at v 1) (at v 4) (at v 7);
-  z = along kind (at v 2) (at v 5) (at v 8);
-  w = weights kind area;
+unfoldable pub pointsBy : Rows → List Float → Float → Points
+pointsBy rows v area = record {
+  x = along (rows .first) (rows .second) (rows .third) (at v 0) (at v 3) (at v 6);
+  y = along (rows .first) (rows .second) (rows .third) (at v 1) (at v 4) (at v 7);
+  z = along (rows .first) (rows .second) (rows .third) (at v 2) (at v 5) (at v 8);
+  w = weights (rows .weight) area;
 }
+
+abbrev pub pointsOf : QuadratureKind → List Float → Float → Points
+pointsOf kind = pointsBy (rowsOf kind)
 
 -- ---- the sums
 -- g of each index below k, added in order to +0

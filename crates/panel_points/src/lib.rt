@@ -1,4 +1,4 @@
-// The points of a quadrature rule on a panel, in seven places for any rule, and sums over them.
+// The rows of a quadrature rule and its points on a panel, in seven places for any rule, and sums over them.
 use tri::quadrature::QuadratureKind;
 use tri::quadrature::quadrature_count;
 use tri::quadrature::quadrature_row;
@@ -30,29 +30,59 @@ pub fn three(v: [f64; 9]) -> [[f64; 3]; 3]
     [[v[0], v[1], v[2]], [v[3], v[4], v[5]], [v[6], v[7], v[8]]]
 }
 
-// ---- the points of a rule on a panel, seven places for any rule
-// One coordinate of each point, of that coordinate of the corners.
-fn along(kind: QuadratureKind, a: f64, b: f64, c: f64) -> [f64; 7]
-    ensures { λ r. ⌜ r ≡ Spec.along kind a b c ⌝ }
+// ---- the rows of a rule, seven places for any rule
+// Of each row the shares of the three corners, 1 - u - v, u and v, and the weight; +0 behind the rule's count.
+pub struct Rows {
+    pub first: [f64; 7],
+    pub second: [f64; 7],
+    pub third: [f64; 7],
+    pub weight: [f64; 7],
+}
+
+// Reads the rule's table, so it is called once a source and not once a pair.
+pub fn rows_of(kind: QuadratureKind) -> Rows
+    ensures { λ r. ⌜ r ≡ Spec.rowsOf kind ⌝ }
 {
     let count = quadrature_count(kind);
-    let mut out = [0.0; 7];
+    let mut first = [0.0; 7];
+    let mut second = [0.0; 7];
+    let mut third = [0.0; 7];
+    let mut weight = [0.0; 7];
     for k in 0..count {
         let q = quadrature_row(kind, k);
-        out[k] = a * (1.0 - q[1] - q[2]) + b * q[1] + c * q[2];
+        first[k] = 1.0 - q[1] - q[2];
+        second[k] = q[1];
+        third[k] = q[2];
+        weight[k] = q[0];
+    }
+    Rows {
+        first,
+        second,
+        third,
+        weight,
+    }
+}
+
+// ---- the points of a rule on a panel
+// All seven places in loops of fixed length, which the compiler lays out in lanes; what stands behind the rule's count is never read.
+// One coordinate of each point, of that coordinate of the corners and the corners' shares.
+fn along(first: [f64; 7], second: [f64; 7], third: [f64; 7], a: f64, b: f64, c: f64) -> [f64; 7]
+    ensures { λ r. ⌜ r ≡ Spec.along first second third a b c ⌝ }
+{
+    let mut out = [0.0; 7];
+    for k in 0..7usize {
+        out[k] = a * first[k] + b * second[k] + c * third[k];
     }
     out
 }
 
 // The weight of each point, of the panel's area.
-fn weights(kind: QuadratureKind, area: f64) -> [f64; 7]
-    ensures { λ r. ⌜ r ≡ Spec.weights kind area ⌝ }
+fn weights(weight: [f64; 7], area: f64) -> [f64; 7]
+    ensures { λ r. ⌜ r ≡ Spec.weights weight area ⌝ }
 {
-    let count = quadrature_count(kind);
     let mut out = [0.0; 7];
-    for k in 0..count {
-        let q = quadrature_row(kind, k);
-        out[k] = q[0] * area;
+    for k in 0..7usize {
+        out[k] = weight[k] * area;
     }
     out
 }
@@ -66,16 +96,21 @@ pub struct Points {
 }
 
 // The points of a panel with these corners, nine numbers, and this area.
-pub fn points_of(kind: QuadratureKind, v: [f64; 9], area: f64) -> Points
-    ensures { λ r. ⌜ r ≡ Spec.pointsOf kind v area ⌝ }
+pub fn points_by(rows: Rows, v: [f64; 9], area: f64) -> Points
+    ensures { λ r. ⌜ r ≡ Spec.pointsBy rows v area ⌝ }
 {
-    let x = along(kind, v[0], v[3], v[6]);
-    let y = along(kind, v[1], v[4], v[7]);
-    let z = along(kind, v[2], v[5], v[8]);
-    let w = weights(kind, area);
+    let first = rows.first;
+    let second = rows.second;
+    let third = rows.third;
+    let weight = rows.weight;
+    let x = along(first, second, third, v[0], v[3], v[6]);
+    let y = along(first, second, third, v[1], v[4], v[7]);
+    let z = along(first, second, third, v[2], v[5], v[8]);
+    let w = weights(weight, area);
     Points { x, y, z, w }
 }
 
+// ---- sums over the places
 // The sum of w[j] * held[j].
 pub fn weighted(count: usize, w: [f64; 7], held: [f64; 7]) -> f64
     requires { ⌜ count ≤ 7 ⌝ }

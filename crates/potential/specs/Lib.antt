@@ -1,3 +1,2 @@
 pub mod Potential
-pub mod Seven
 pub mod Moderate

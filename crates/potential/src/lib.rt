@@ -1,6 +1,4 @@
 // boundary_element/triangle_potential.rs: exact static potential of a uniformly loaded flat triangle.
-pub mod seven;
-
 ghost use mathlib.Core.Path.{_≡_};
 ghost use Prim.Native.Nat.{_<_};
 ghost use Rattle.potential.specs.Potential as Spec;
@@ -18,7 +16,7 @@ fn nine(a: [f64; 3], b: [f64; 3], c: [f64; 3]) -> [f64; 9]
     [a[0], a[1], a[2], b[0], b[1], b[2], c[0], c[1], c[2]]
 }
 
-fn vector(v: [f64; 9], i: usize) -> [f64; 3]
+pub fn vector(v: [f64; 9], i: usize) -> [f64; 3]
     requires { ⌜ i < 3 ⌝ }
     ensures { λ r. ⌜ r ≡ Spec.vector v i ⌝ }
 {
@@ -55,7 +53,7 @@ fn edge_between(a: [f64; 3], b: [f64; 3], normal: [f64; 3]) -> Edge
 
 // ---- integrals over an edge and over the triangle
 // Integral of 1/distance over a segment of a line that the point is on.
-fn integral_on_line(start: f64, end: f64) -> f64
+pub fn integral_on_line(start: f64, end: f64) -> f64
     ensures { λ r. ⌜ r ≡ Spec.integralOnLine start end ⌝ }
 {
     if (start != 0.0) & (end != 0.0) & ((start > 0.0) == (end > 0.0)) {
@@ -214,7 +212,7 @@ impl UniformTriangle {
     }
 
     // value less the solid angle's part. In the plane that part is a zero wherever the solid angle is finite, and needs no solid angle.
-    fn less_solid_angle(self, obs: [f64; 3], d: f64, value: f64) -> f64
+    pub fn less_solid_angle(self, obs: [f64; 3], d: f64, value: f64) -> f64
         ensures { λ r. ⌜ r ≡ Spec.lessSolidAngle self obs d value ⌝ }
     {
         let nodes = self.nodes;

@@ -3,10 +3,14 @@
 use mathlib.Core.Path.{_≡_, ap, refl, sym, _∙_}
 use mathlib.Core.Bool.{Bool, true, false, cond}
 use mathlib.Core.List.{List}
-use Prim.Native.Nat.{ℕ, _+_}
+use Prim.Native.Nat.{ℕ, _+_, _-_, _*_, _<_, _≤_}
+use native.Mathlib.Omega.{arith}
+use mir.Syntax.{w64}
+use mir.Val.{Fits}
+use borrow.Author.Needs.{fits-under}
 use borrow.Author.Tests.{eqb-true, eqb-false}
 use lib.Dec.{eqb}
-use lib.ListN.{length, getD}
+use lib.ListN.{length, getD, take}
 use lib.Ieee.{Float}
 use Rattle.mesh.specs.Refusal.{after, after-done, after-refused}
 use Rattle.binary64.specs.Binary64.{at}
@@ -17,6 +21,7 @@ use Rattle.inductance.specs.Assembly.{blockUnder}
 use Rattle.scatter.specs.Entries.{same}
 use Rattle.scatter.specs.Renewal.{renewed}
 use Rattle.node_move.specs.Move.{moved, ring, namedCount, moveRefusal, MoveClaim}
+use Rattle.replay_words.proofs.Lent.{at-most}
 use Rattle.replay_words.specs.Words.{cutAt, part, vectorAt}
 use Rattle.replay_move.specs.Move.{leftAsDue, moveInto, moveOf}
 
@@ -63,6 +68,39 @@ compared number p w k t0 t1 t2 s h e =
     let l = left h in
     let f = rw (← s .0, ← s .1, ← s .2, ← s .3) at e in
     rw (← h .number, ← l .total, ← l .cells, ← l .x, ← l .y, ← l .z) f
+
+-- the matrix is a part of n numbers
+pub cells-short : (g n size : ℕ) (l : List Float) → n ≤ size → length (take (g + 1 + n - (g + 1)) l) ≤ size
+cells-short g n size l h = at-most (g + 1 + n - (g + 1)) size l (omega arith)
+
+-- the places of what stands behind a mesh that ends at g, with a matrix of n cells: all within the case
+pub record Places (g n : ℕ) : Type 0 where
+  pub one : Fits w64 (g + 1)
+  pub one-bytes : Fits w64 ((g + 1) * 8)
+  pub matrix-end : Fits w64 (g + 1 + n)
+  pub end-bytes : Fits w64 ((g + 1 + n) * 8)
+  pub inside : g + 1 + n < 512
+  pub two : Fits w64 (g + 2)
+  pub place : Fits w64 (g + 2 + n)
+  pub five : Fits w64 (g + 5)
+  pub results : Fits w64 (g + 5 + n)
+
+pub places : (g n : ℕ) → g ≤ 130 → n ≤ 128 → Places g n
+places g n a b = record {
+  one = fits-under w64 (g + 1) 4096 (omega arith) tt;
+  one-bytes = fits-under w64 ((g + 1) * 8) 4096 (omega arith) tt;
+  matrix-end = fits-under w64 (g + 1 + n) 4096 (omega arith) tt;
+  end-bytes = fits-under w64 ((g + 1 + n) * 8) 4096 (omega arith) tt;
+  inside = omega arith;
+  two = fits-under w64 (g + 2) 4096 (omega arith) tt;
+  place = fits-under w64 (g + 2 + n) 4096 (omega arith) tt;
+  five = fits-under w64 (g + 5) 4096 (omega arith) tt;
+  results = fits-under w64 (g + 5 + n) 4096 (omega arith) tt;
+}
+
+-- a column is short enough to be copied
+pub column-short : (n : ℕ) → n ≤ 20 → n ≤ 128
+column-short n h = omega arith
 
 -- the move on copies that are what the case has, with what stands behind the mesh
 pub behind-mesh : (rule : ℕ) (f : List Float) (w : List ℕ) (g n : ℕ) (p : List Float) (t0 t1 t2 : List ℕ) {x y z x' y' z' cells' : List Float} {b : Bool}

@@ -1,54 +1,64 @@
--- The squares are in place, then their guesses, then their roots, which are the distances.
-use mathlib.Core.Path.{_≡_, refl, sym, ap, _∙_}
-use mathlib.Core.List.{List}
-use Prim.Native.Nat.{ℕ, _*_, _≤_, _<_}
-use native.Mathlib.Nat.{le-refl}
+-- The differences are in place, then their lengths, which are the distances (`distance-is`).
+use mathlib.Core.Path.{_≡_, refl, sym, _∙_}
+use Prim.Native.Nat.{_*_}
 use native.Mathlib.Omega.{arith}
 use denote.Ref.{now}
-use borrow.Author.Needs.{needs}
 use lib.ListN.{length}
-use lib.Ieee.{Float}
-use Rattle.binary64.specs.Binary64.{at}
-use Rattle.ieee754.specs.Ieee754.{sqrt}
-use Rattle.math.specs.Math.{norm3}
-use Rattle.distances.specs.Distances.{square, squareFrom, distance}
-use Rattle.distances.proofs.Turns.{pairs-fit, front-length, front-at, front-same}
+use Rattle.distances.specs.Distances.{difference, distance}
+use Rattle.distances.proofs.Turns.{pairs-fit, front-at, front-same, distance-is}
 use Rattle.distances.proofs.distances.Statement.{statement}
 use Rattle.distances.proofs.distances.Tie as tie
 
-squares-requires : tie.Need-squares-requires
-squares-requires c κs =
+differences-requires : tie.Need-differences-requires
+differences-requires c κs =
     let w = c .before .before .before .before .before .before .before .before in
-    (w .pre .0, (w .pre .1 .0, (w .pre .1 .1 .0, pairs-fit (w .args .n) (w .pre .1 .1 .0))))
+    (w .pre .0 .0, w .pre .1 .0 .0, w .pre .1 .1 .0, pairs-fit (w .args .n) (w .pre .1 .1 .0))
 
-guesses-requires : tie.Need-guesses-requires
-guesses-requires c κs =
-    let w = c .before .before .before .before .before .before .before .before .before .before .before .before in
+differences-requires-2 : tie.Need-differences-requires-2
+differences-requires-2 c κs =
+    let w = c .before .before .before .before .before .before .before .before .before .before .before in
+    (w .pre .0 .1, w .pre .1 .0 .1, w .pre .1 .1 .0, pairs-fit (w .args .n) (w .pre .1 .1 .0))
+
+differences-requires-3 : tie.Need-differences-requires-3
+differences-requires-3 c κs =
+    let w = c .before .before .before .before .before .before .before .before .before .before .before .before .before .before in
+    (w .pre .0 .2, w .pre .1 .0 .2, w .pre .1 .1 .0, pairs-fit (w .args .n) (w .pre .1 .1 .0))
+
+mul-norms : tie.Need-mul-norms
+mul-norms c =
+    let w = c .before .before .before .before .before .before .before .before .before .before .before .before .before .before .before .before .before .before .before in
+    omega (arith, pairs-fit (w .args .n) (w .pre .1 .1 .0))
+
+norms-requires : tie.Need-norms-requires
+norms-requires c κs =
+    let w = c .before .before .before .before .before .before .before .before .before .before .before .before .before .before .before .before .before .before .before .before in
+    let x = c .before .before .before .before .before .before .before .before .before .before .before .differences in
+    let y = c .before .before .before .before .before .before .before .before .differences2 in
+    let z = c .before .before .before .before .before .differences3 in
     let f = pairs-fit (w .args .n) (w .pre .1 .1 .0) in
-    (omega (arith, f, ap length (c .before .before .before .squares .ensures) ∙ front-length _ (w .args .n * w .args .n) _ (w .args .n * w .args .n) f (le-refl (w .args .n * w .args .n))), f)
-
-roots-requires : tie.Need-roots-requires
-roots-requires c κs =
-    let w = c .before .before .before .before .before .before .before .before .before .before .before .before .before .before .before .before .before in
-    let p = w .args .n * w .args .n in
-    let f = pairs-fit (w .args .n) (w .pre .1 .1 .0) in (
-      omega (arith, f, ap length (c .before .before .before .before .before .before .before .before .squares .ensures) ∙ front-length _ p _ p f (le-refl p)),
-      omega (arith, f, ap length (c .before .before .before .before .guesses .ensures) ∙ front-length _ p _ p f (le-refl p)),
-      w .pre .1 .1 .1,
-    )
+    let long-x : length (x .last .1 .1 .1 .0) ≡ 49 = x .kept .1 .1 .1 .0 in
+    let long-y : length (y .last .1 .1 .1 .0) ≡ 49 = y .kept .1 .1 .1 .0 in
+    let long-z : length (z .last .1 .1 .1 .0) ≡ 49 = z .kept .1 .1 .1 .0 in
+    ((omega (arith, f), omega (arith, f), omega (arith, f)), (f, w .pre .1 .1 .1))
 
 returns : tie.Need-returns
-unfolding distance square squareFrom norm3
 returns c =
-    let w = c .before .before .before .before .before .before .before .before .before .before .before .before .before .before .before .before .before .before .before .before in
-    let a = w .args in
-    let e = c .before .before .before .before .before .before .before .before .before .before .before .squares .ensures in
-    c .before .before .roots .ensures
-    ∙ front-same (now (a .out)) (a .n * a .n) _ (distance (now (a .a)) (now (a .b)) (now (a .c)) (now (a .x)) (now (a .y)) (now (a .z)) (a .n))
-    (λ k m. ap (λ (r : List Float). sqrt (at r k)) e ∙ ap sqrt (front-at _ (a .n * a .n) (square (now (a .a)) (now (a .b)) (now (a .c)) (now (a .x)) (now (a .y)) (now (a .z)) (a .n)) k m))
+    let a = c .before .before .before .before .before .before .before .before .before .before .before .before .before .before .before .before .before .before .before .before .before .before .before .args in
+    let x = c .before .before .before .before .before .before .before .before .before .before .before .before .before .before .differences in
+    let y = c .before .before .before .before .before .before .before .before .before .before .before .differences2 in
+    let z = c .before .before .before .before .before .before .before .before .differences3 in
+    let p = a .n * a .n in
+    c .before .before .norms .ensures
+    ∙ front-same (now (a .out)) p _ (distance (now (a .a)) (now (a .b)) (now (a .c)) (now (a .x)) (now (a .y)) (now (a .z)) (a .n))
+    (λ k m.
+    distance-is (x .last .1 .1 .1 .0) (y .last .1 .1 .1 .0) (z .last .1 .1 .1 .0) (now (a .a)) (now (a .b)) (now (a .c)) (now (a .x)) (now (a .y)) (now (a .z)) (a .n) k
+    (front-at _ _ p (difference (now (a .a)) (now (a .x)) (a .n)) k (x .ensures) m)
+    (front-at _ _ p (difference (now (a .b)) (now (a .y)) (a .n)) k (y .ensures) m)
+    (front-at _ _ p (difference (now (a .c)) (now (a .z)) (a .n)) k (z .ensures) m))
 
 pub distances-spec : {M : Type 1} → statement M
 distances-spec =
     tie.close
-    (tie.spec (search needs) squares-requires (search needs) (search needs) (search needs) guesses-requires (search needs) (search needs) (search needs)
-    roots-requires (search needs) returns)
+    (tie.spec (λ c. refl) differences-requires (λ c. refl) differences-requires-2 (λ c. refl) differences-requires-3
+    (λ c. sym (c .before .before .before .before .before .before .before .before .differences .kept .1 .1 .1 .0)) (λ c. sym (c .before .before .before .before .before .before .differences2 .kept .1 .1 .1 .0)) (λ c. sym (c .before .before .before .before .differences3 .kept .1 .1 .1 .0))
+    mul-norms norms-requires (λ c. c .before .before .norms .kept .1 .1 .1 .1 .0) returns)

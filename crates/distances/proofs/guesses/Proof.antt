@@ -1,9 +1,8 @@
 -- After k turns the first k guesses are in place.
 use mathlib.Core.Path.{_≡_, refl, ap, _∙_}
-use Prim.Native.Nat.{ℕ, _+_, _-_, _≤_, _<_}
+use Prim.Native.Nat.{ℕ, _-_, _≤_, _<_}
 use native.Mathlib.Omega.{arith}
 use denote.Ref.{now}
-use borrow.Author.Needs.{needs}
 use lib.ListN.{length, length-set}
 use Rattle.binary64.specs.Binary64.{at}
 use Rattle.square_root.specs.Estimate.{guess}
@@ -42,5 +41,5 @@ returns c =
 pub guesses-spec : {M : Type 1} → statement M
 guesses-spec =
     tie.close
-    (tie.spec Inv-loop μ-loop loop-holds (search needs) (search needs) (search needs) (search needs) (search needs) (search needs) (search needs)
-    loop-again (search needs) returns)
+    (tie.spec Inv-loop μ-loop loop-holds (λ c. omega arith) (λ c. omega arith) (λ c κs. tt) (λ c. omega arith) (λ c. omega arith) (λ c. omega arith)
+    (λ c. omega arith) loop-again (λ c. c .before .loop .inv .1) returns)

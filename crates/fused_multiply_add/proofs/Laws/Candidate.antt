@@ -11,15 +11,17 @@ use lib.Ieee.{Float, binary64, unlike, sum, add, mul, fits, toBits}
 use lib.Ieee.Fits.{add-fits}
 use lib.Ieee.Exact.{HasValue}
 use Rattle.binary64.proofs.Nearest.{Near}
-use Rattle.fused_multiply_add.specs.Jam.{Jam}
-use Rattle.fused_multiply_add.specs.Guided.{Rest, Fits, added, taken}
-use Rattle.fused_multiply_add.specs.Fma.{fma}
-use Rattle.fused_multiply_add.proofs.Laws.Jam.{jam-add}
-use Rattle.fused_multiply_add.proofs.Laws.Value.{signOf, fma-values}
+use Rattle.fused_integer.specs.Jam.{Jam}
+use Rattle.fused_guided.specs.Guided.{Rest}
+use Rattle.fused_multiply_add.specs.Residual.{Fits, added, taken}
+use Rattle.fused_integer.specs.Fma.{fma}
+use Rattle.fused_integer.proofs.Laws.Jam.{jam-add}
+use Rattle.fused_integer.proofs.Laws.Value.{signOf, fma-values}
 use Rattle.fused_multiply_add.proofs.Laws.Tests.{Reach}
-use Rattle.fused_multiply_add.proofs.Laws.Guided.{normal-value, digits-ge, digits-lt, product-lt, product-units, units-shift, shift-ge, shift-even, unwrapped-k, sum-is}
+use Rattle.fused_guided.proofs.Laws.Guided.{normal-value, digits-ge, digits-lt, product-lt, product-units, units-shift, shift-ge, shift-even, unwrapped-k, sum-is}
 use Rattle.fused_multiply_add.proofs.Laws.Error.{TwoRoundings, two-roundings, sum-plus, candidate-error}
-use Rattle.fused_multiply_add.proofs.Laws.Residual.{last-sum, jam-round}
+use Rattle.fused_guided.proofs.Laws.Rest.{jam-round}
+use Rattle.fused_multiply_add.proofs.Laws.Residual.{last-sum}
 
 -- ---- the places and the exponents that `rest_word` and `rest_float` take
 

@@ -14,9 +14,9 @@ use lib.Ieee.Order.{drop}
 use lib.Ieee.Scale.{round-same, grid, finite}
 use Rattle.binary64.proofs.Nearest.{Near, grid-near, round-value, round-finite}
 use Rattle.binary64.proofs.Size.{exponent-lt}
-use Rattle.fused_multiply_add.specs.Guided.{added, taken}
-use Rattle.fused_multiply_add.proofs.Laws.Once.{RoundedOnce, sum-once, plus-terms}
-use Rattle.fused_multiply_add.proofs.Laws.Value.{add-values}
+use Rattle.fused_multiply_add.specs.Residual.{added, taken}
+use Rattle.fused_integer.proofs.Laws.Once.{RoundedOnce, sum-once, plus-terms}
+use Rattle.fused_integer.proofs.Laws.Value.{add-values}
 
 -- ---- a value has one sign and one size
 
@@ -32,7 +32,7 @@ value-one (fin u m e) s t a b c C p q = eq-of-mul-eq-mul-right (down e) (down-po
 
 -- ---- the product, rounded
 
-product-round : (x y : Float) (s t : Bool) (n k l : ℕ) → 0 < l → HasValue x s n l → HasValue y t k l
+pub product-round : (x y : Float) (s t : Bool) (n k l : ℕ) → 0 < l → HasValue x s n l → HasValue y t k l
     → mul binary64 x y ≡ round binary64 (unlike s t) (n * k) (l * l)
 unfolding mul
 product-round nan y s t n k l L h j = absurd h
@@ -60,7 +60,7 @@ first-finite (inf u) (inf v) s r b w l q h = absurd q
 first-finite (inf u) (fin v n d) s r b w l q h = absurd h
 first-finite (fin u m e) z s r b w l q h = tt
 
-value-finite : (x : Float) (s : Bool) (a c : ℕ) → HasValue x s a c → T (finite x)
+pub value-finite : (x : Float) (s : Bool) (a c : ℕ) → HasValue x s a c → T (finite x)
 value-finite nan s a c h = absurd h
 value-finite (inf u) s a c h = absurd h
 value-finite (fin u m e) s a c h = tt
@@ -154,7 +154,7 @@ module _ (x y z : Float) (s t u r : Bool) (n k b w : ℕ) (X : HasValue x s n (2
 
 -- ---- the two errors together
 
-near-cancel : (v w u l : ℕ) → 0 < l → Near (v * l) (w * l) (u * l) → Near v w u
+pub near-cancel : (v w u l : ℕ) → 0 < l → Near (v * l) (w * l) (u * l) → Near v w u
 near-cancel v w u l L h = (
   le-of-mul-le-mul-right (le-trans (le-of-eq (mul-right-comm v 2 l)) (le-trans (h .0) (le-of-eq (back w)))) L,
   le-of-mul-le-mul-right

@@ -2,7 +2,7 @@
 use Prim.Native.Nat.{_^_}
 use lib.Pow.{pow-pos}
 use borrow.Author.Needs.{needs}
-use Rattle.fused_multiply_add.proofs.Laws.Words.{jam-below}
+use Rattle.fused_integer.proofs.Laws.Words.{jam-below}
 use Rattle.fused_multiply_add.proofs.jam_word.Statement.{statement}
 use Rattle.fused_multiply_add.proofs.jam_word.Tie as tie
 

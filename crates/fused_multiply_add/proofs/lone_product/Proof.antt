@@ -1,7 +1,7 @@
 -- The test is its definition.
 use mathlib.Core.Path.{refl}
 use lib.Ieee.{eq}
-use Rattle.fused_multiply_add.specs.Guided.{loneProduct}
+use Rattle.fused_multiply_add.specs.Residual.{loneProduct}
 use Rattle.fused_multiply_add.proofs.lone_product.Statement.{statement}
 use Rattle.fused_multiply_add.proofs.lone_product.Tie as tie
 

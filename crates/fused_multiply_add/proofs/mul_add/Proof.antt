@@ -11,11 +11,12 @@ use borrow.Author.Tests.{not-false}
 use lib.Dec.{T}
 use lib.Ieee.{binary64, fits, unlike, add, mul, isNan}
 use Rattle.binary64.proofs.Pattern.{self-equal}
-use Rattle.fused_multiply_add.proofs.Laws.Value.{signOf}
-use Rattle.fused_multiply_add.proofs.Laws.Guided.{number-x, number-y, number-z}
+use Rattle.fused_integer.proofs.Laws.Value.{signOf}
+use Rattle.fused_multiply_add.proofs.Laws.Tests.{number-x, number-y, number-z}
 use Rattle.fused_multiply_add.proofs.Laws.Tests.{Reach, reach-is}
 use Rattle.fused_multiply_add.proofs.Laws.Candidate.{place-word, exponent-low, exponent-some, exponent-most, close, residual-law}
-use Rattle.fused_multiply_add.proofs.Laws.Cases.{lone-product}
+use Rattle.fused_integer.proofs.Laws.Cases.{lone-product}
+use Rattle.fused_multiply_add.specs.Residual.{loneProduct}
 use Rattle.fused_multiply_add.proofs.mul_add.Statement.{statement}
 use Rattle.fused_multiply_add.proofs.mul_add.Tie as tie
 
@@ -111,6 +112,7 @@ rest-float-requires c κs =
     (c .jam-word .ensures .1, (exponent-some x y (ok .low-x) (ok .low-y), exponent-most x y (ok .high-x) (ok .high-y)))
 
 returns : tie.Need-returns
+unfolding loneProduct
 returns c =
     let s = c .before .before in
     lone-product (s .args .x) (s .args .y) (s .args .z) (sym (c .before .lone-product .ensures) ∙ c .if1 .taken)

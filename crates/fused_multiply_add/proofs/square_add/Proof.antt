@@ -8,11 +8,12 @@ use borrow.Author.Tests.{not-false, lt-leb}
 use lib.Dec.{T}
 use lib.Ieee.{binary64, fits, unlike, add, mul, toBits}
 use Rattle.binary64.proofs.Pattern.{self-equal}
-use Rattle.fused_multiply_add.proofs.Laws.Value.{signOf}
-use Rattle.fused_multiply_add.proofs.Laws.Guided.{number-x, number-z}
+use Rattle.fused_integer.proofs.Laws.Value.{signOf}
+use Rattle.fused_multiply_add.proofs.Laws.Tests.{number-x, number-z}
 use Rattle.fused_multiply_add.proofs.Laws.Tests.{Reach, reach-is}
 use Rattle.fused_multiply_add.proofs.Laws.Candidate.{place-word, exponent-low, exponent-some, exponent-most, t-plus, close, residual-law}
-use Rattle.fused_multiply_add.proofs.Laws.Cases.{lone-product}
+use Rattle.fused_integer.proofs.Laws.Cases.{lone-product}
+use Rattle.fused_multiply_add.specs.Residual.{loneProduct}
 use Rattle.fused_multiply_add.proofs.square_add.Statement.{statement}
 use Rattle.fused_multiply_add.proofs.square_add.Tie as tie
 
@@ -124,6 +125,7 @@ returns-5 c =
     (c .rest-float .result) (w .rest-word .ensures) (j .jam-word .ensures .0) (c .rest-float .ensures)
 
 returns : tie.Need-returns
+unfolding loneProduct
 returns c =
     let s = c .before .before in
     lone-product (s .args .x) (s .args .x) (s .args .z) (sym (c .before .lone-product .ensures) ∙ c .if1 .taken)

@@ -1,5 +1,5 @@
 -- Some panel is flagged, the numbers are kept and every source added; or none is, and nothing is to be added.
-use mathlib.Core.Path.{_≡_}
+use mathlib.Core.Path.{_≡_, refl, sym}
 use native.Mathlib.Omega.{arith}
 use denote.Ref.{now}
 use lib.ListN.{length}
@@ -8,7 +8,6 @@ use Rattle.coupling.specs.Block.{mutualInductanceBlock}
 use Rattle.scatter.specs.Renewal.{marked}
 use Rattle.inductance.proofs.Nest.{no-sources}
 use Rattle.inductance.proofs.Scan.{none-flagged}
-use borrow.Author.Needs.{needs}
 use Rattle.inductance.proofs.add_all.Statement.{statement}
 use Rattle.inductance.proofs.add_all.Tie as tie
 
@@ -22,7 +21,7 @@ add-sources-requires : tie.Need-add-sources-requires
 add-sources-requires c κs =
     let w = c .before .before .before .before .before .before .before .before .before .before .before .before .before .before .before .before .before .pre in
     let k = c .before .before .before .keep-panels in
-    let fit : length (k .last .1 .1 .1 .1 .1 .1 .0) ≡ 139264 = search needs in
+    let fit : length (k .last .1 .1 .1 .1 .1 .1 .0) ≡ 139264 = k .kept .1 .1 .1 .1 .1 .1 .0 in
     (w .0, (w .1, record { long = rw fit (omega (arith, w .0 .few-panels)); holds = k .ensures }))
 
 returns : tie.Need-returns
@@ -39,4 +38,4 @@ returns-2 c =
 pub add-all-spec : {M : Type 1} → statement M
 add-all-spec =
     tie.close
-    (tie.spec next-named-requires (search needs) keep-panels-requires (search needs) add-sources-requires (search needs) returns returns-2)
+    (tie.spec next-named-requires (λ c. refl) keep-panels-requires (λ c. sym (c .before .before .keep-panels .kept .1 .1 .1 .1 .1 .1 .0)) add-sources-requires (λ c. c .before .before .add-sources .kept .1 .1 .1 .1 .1 .1 .1 .1 .1 .1 .1 .0) returns returns-2)

@@ -1,5 +1,5 @@
 -- Panels flagged and linked, named cells cleared, then every addition made: the renewed matrix.
-use mathlib.Core.Path.{_≡_}
+use mathlib.Core.Path.{_≡_, refl, sym, _∙_}
 use denote.Ref.{now}
 use lib.ListN.{length}
 use Rattle.mesh.specs.Mesh.{Mesh, meshOf, nnode}
@@ -9,7 +9,6 @@ use Rattle.inductance.proofs.Within.{entries-within}
 use Rattle.inductance.proofs.Nest.{nest-done, cleared-length}
 use Rattle.inductance.proofs.Ready.{ready-now}
 use Rattle.inductance.proofs.Scan.{indices-marked}
-use borrow.Author.Needs.{needs}
 use Rattle.inductance.proofs.renew.Statement.{statement}
 use Rattle.inductance.proofs.renew.Tie as tie
 
@@ -22,7 +21,8 @@ flag-panels-requires c κs =
 link-marked-requires : tie.Need-link-marked-requires
 link-marked-requires c κs =
     let w = c .before .before .before .before .before .before .before .before .before .before .before .before .before .pre in
-    let long : length (c .before .before .before .flag-panels .last .1 .1 .1 .1 .0) ≡ 8192 = search needs in
+    let f = c .before .before .before .flag-panels in
+    let long : length (f .last .1 .1 .1 .1 .0) ≡ 8192 = f .kept .1 .1 .1 .1 .0 in
     (rw long (w .few-panels), w .few-panels)
 
 clear-named-requires : tie.Need-clear-named-requires
@@ -36,11 +36,16 @@ add-all-requires c κs =
     let s = c .before .before .before .before .before .clear-named in
     let f = c .before .before .before .before .before .before .before .before .before .before .before .before .flag-panels in
     let l = c .before .before .before .before .before .before .before .before .link-marked in
-    let flags-fit : length (f .last .1 .1 .1 .1 .0) ≡ 8192 = search needs in
-    let links-fit : length (l .last .1 .1 .0) ≡ 8192 = search needs in (
+    let flags-fit : length (f .last .1 .1 .1 .1 .0) ≡ 8192 = f .kept .1 .1 .1 .1 .0 in
+    let links-fit : length (l .last .1 .1 .0) ≡ 8192 = l .kept .1 .1 .0 in (
       ready-now m (now (a .out)) (s .last .0) (now (a .marks)) (w .pre) (cleared-length (marked (now (a .marks))) (nnode m) (now (a .out)) (w .pre .sized .cells) (s .ensures)),
       record { flags-long = rw flags-fit (w .pre .few-panels); links-long = rw links-fit (w .pre .few-panels); flagged = f .ensures; linked = l .ensures },
     )
+
+same-length : tie.Need-same-length
+same-length c =
+    c .before .before .add-all .kept .1 .1 .1 .1 .1 .1 .1 .1 .1 .1 .0
+    ∙ c .before .before .before .before .before .before .before .before .clear-named .kept .0
 
 returns : tie.Need-returns
 returns c =
@@ -55,4 +60,4 @@ returns c =
 pub renew-spec : {M : Type 1} → statement M
 renew-spec =
     tie.close
-    (tie.spec (search needs) flag-panels-requires (search needs) (search needs) link-marked-requires clear-named-requires (search needs) (search needs) add-all-requires (search needs) returns)
+    (tie.spec (λ c. refl) flag-panels-requires (λ c. sym (c .before .before .flag-panels .kept .1 .1 .1 .1 .0)) (λ c. refl) link-marked-requires clear-named-requires (λ c. sym (c .before .before .before .before .before .before .before .before .before .before .flag-panels .kept .1 .1 .1 .1 .0)) (λ c. sym (c .before .before .before .before .before .before .before .link-marked .kept .1 .1 .0)) add-all-requires same-length returns)

@@ -68,21 +68,6 @@ named-cells-requires c κs =
     let w = c .before .before .before .before .before .before .before .before .before .before .before .before .before .before .before .before .before .before .before .before in
     (w .pre .small, omega (arith, count-bound (marked (c .before .before .before .before .before .before .before .before .before .before .before .mark-ring .last .0)) (length (now (w .args .x))), c .before .before .before .before .before .before .before .before .count-marks .ensures))
 
-same-length : tie.Need-same-length
-same-length c =
-    let a = c .before .before .before .before .before .before .before .before .before .before .before .before .before .before .before .before .before .before .before .before .before .args in
-    length-set (now (a .x)) (a .v) (a .px)
-
-same-length-2 : tie.Need-same-length-2
-same-length-2 c =
-    let a = c .before .before .before .before .before .before .before .before .before .before .before .before .before .before .before .before .before .before .before .before .before .args in
-    length-set (now (a .y)) (a .v) (a .py)
-
-same-length-3 : tie.Need-same-length-3
-same-length-3 c =
-    let a = c .before .before .before .before .before .before .before .before .before .before .before .before .before .before .before .before .before .before .before .before .before .args in
-    length-set (now (a .z)) (a .v) (a .pz)
-
 returns : tie.Need-returns
 returns c =
     let a = c .before .before .before .before .before .before .before .before .before .before .before .before .before .before .before .before .before .before .before .before .before .args in
@@ -95,4 +80,4 @@ returns c =
 pub move-accepted-spec : {M : Type 1} → statement M
 move-accepted-spec =
     tie.close
-    (tie.spec (λ c. refl) mark-ring-requires (λ c. omega arith) (λ c κs. omega arith) mul-x slice-write-x mul-y slice-write-y mul-z slice-write-z (λ c. omega arith) renew-requires named-cells-requires same-length same-length-2 same-length-3 (λ c. omega arith) returns)
+    (tie.spec (λ c. refl) mark-ring-requires (λ c. omega arith) (λ c κs. omega arith) mul-x slice-write-x mul-y slice-write-y mul-z slice-write-z (λ c. omega arith) renew-requires named-cells-requires (λ c. simp length-set) (λ c. simp length-set) (λ c. simp length-set) (λ c. omega arith) returns)

@@ -1,24 +1,21 @@
 -- The kept numbers are those of the corners, so the test is isFar; then the shared sums are the far rule, or the kept record's integral is the near rule.
 use mathlib.Core.Path.{_≡_}
-use Rattle.tri.proofs.Counts.{count-between}
 use Rattle.coupling.specs.Coupling.{isFar, geometricCoupling}
 use Rattle.panel_points.specs.Points.{triangle}
+use Rattle.panel_points.proofs.Places.{few}
 use Rattle.pair.specs.Pair as Spec
-use Rattle.pair.proofs.Kept.{kept-area, which-is, source-points, source-uniform}
+use Rattle.pair.proofs.Kept.{kept-area, which-is, source-rows, source-points, source-uniform}
 use Rattle.far_rule.proofs.Symmetric.{symmetric}
 use Rattle.pair.proofs.pair_coupling.Statement.{statement}
 use Rattle.pair.proofs.pair_coupling.Tie as tie
 
 far-coupling-requires : tie.Need-far-coupling-requires
-far-coupling-requires c κs =
-    let n = c .before .quadrature-count in
-    let w = c .before .before .before .before .before .before .before .before .before .before .before .before .before .before .before .before in
-    rw (n .ensures) (count-between (w .args .kind) .1)
+far-coupling-requires c κs = rw (c .before .quadrature-count .ensures) (few _)
 
 returns : tie.Need-returns
 unfolding geometricCoupling
 returns c =
-    let b1 = c .before in let b2 = b1 .before in let b4 = b2 .before .before in let b5 = b4 .before in
+    let b1 = c .before in let b2 = b1 .before in let b4 = b2 .before .before .before in let b5 = b4 .before in
     let b6 = b5 .before in let b7 = b6 .before in let b8 = b7 .before in let b9 = b8 .before in
     let w = b9 .before .before .before .before .before .before .before .before in
     let s = w .args .s in
@@ -31,9 +28,10 @@ returns c =
       ← f,
       b4 .if1 .taken,
       c .far-coupling .ensures,
-      b1 .points-of .ensures,
+      b1 .points-by .ensures,
       b2 .quadrature-count .ensures,
       kept-area t (w .pre .1),
+      source-rows (w .args .kind) s q,
       source-points (w .args .kind) s q,
     ) (symmetric (w .args .kind) (s .panel .corners) (t .corners))
 

@@ -2,7 +2,7 @@
 use Rattle.replay_move.specs.Move.{keptColumns}
 use native.Mathlib.Omega.{arith}
 use mir.Syntax.{w64}
-use borrow.Author.Needs.{needs, fits-under}
+use borrow.Author.Needs.{fits-under}
 use Rattle.replay_move.proofs.kept_columns.Statement.{statement}
 use Rattle.replay_move.proofs.kept_columns.Tie as tie
 
@@ -11,4 +11,4 @@ unfolding keptColumns
 returns c = rw (← c .before .before .kept .ensures, ← c .before .kept2 .ensures, ← c .kept3 .ensures)
 
 pub kept-columns-spec : {M : Type 1} → statement M
-kept-columns-spec = tie.close (tie.spec (λ c. fits-under w64 _ 4096 (omega arith) tt) (λ c. fits-under w64 _ 4096 (omega arith) tt) (search needs) (search needs) (search needs) returns)
+kept-columns-spec = tie.close (tie.spec (λ c. fits-under w64 _ 4096 (omega arith) tt) (λ c. fits-under w64 _ 4096 (omega arith) tt) (λ c κs. (omega arith, omega arith)) (λ c κs. (omega arith, omega arith)) (λ c κs. (omega arith, omega arith)) returns)

@@ -1,7 +1,6 @@
 -- The copies are what the case has, and keep their lengths; the claim of the call says what is due.
 use mathlib.Core.Path.{ap}
 use native.Mathlib.Omega.{arith}
-use borrow.Author.Needs.{needs}
 use denote.Ref.{now}
 use lib.ListN.{length}
 use Rattle.replay_move.proofs.Moved.{compared}
@@ -23,4 +22,4 @@ returns c =
     compared (b .args .rule) (b .args .t10) (now (b .args .w)) (b .args .k) (now (b .args .t0)) (now (b .args .t1)) (now (b .args .t2)) (b .pre .1) (c .before .before .before .before .before .before .before .before .before .before .before .before .before .move-node .ensures) (c .left-as-due .ensures)
 
 pub move-into-spec : {M : Type 1} → statement M
-move-into-spec = tie.close (tie.spec (λ c. omega arith) (λ c. omega arith) (λ c. omega arith) (search needs) left-as-due-requires (search needs) (search needs) (search needs) (search needs) returns)
+move-into-spec = tie.close (tie.spec (λ c. omega arith) (λ c. omega arith) (λ c. omega arith) (λ c κs. tt) left-as-due-requires (λ c. c .before .before .before .before .before .before .before .before .before .before .before .before .before .move-node .kept .1 .0) (λ c. c .before .before .before .before .before .before .before .before .before .before .before .before .before .move-node .kept .1 .1 .0) (λ c. c .before .before .before .before .before .before .before .before .before .before .before .before .before .move-node .kept .1 .1 .1 .0) (λ c. c .before .before .before .before .before .before .before .before .before .before .before .before .before .move-node .kept .1 .1 .1 .1 .1 .1 .1 .0) returns)

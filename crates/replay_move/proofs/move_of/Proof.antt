@@ -1,21 +1,37 @@
 -- The copies are the columns and the matrix of the case.
-use Rattle.replay_words.proofs.Lent.{at-most}
+use Prim.Native.Nat.{_+_}
+use lib.ListN.{drop}
+use native.Mathlib.Nat.{le-add-right}
 use native.Mathlib.Omega.{arith}
-use mir.Syntax.{w64}
-use borrow.Author.Needs.{needs, fits-under}
+use borrow.Author.Needs.{zero≤}
 use denote.Ref.{now}
-use Rattle.replay_move.proofs.Moved.{behind-mesh}
+use Rattle.replay_move.proofs.Moved.{behind-mesh, cells-short, column-short, places}
 use Rattle.replay_move.proofs.move_of.Statement.{statement}
 use Rattle.replay_move.proofs.move_of.Tie as tie
 
 copied-requires-4 : tie.Need-copied-requires-4
-copied-requires-4 c κs = search (needs, at-most)
+copied-requires-4 c κs = cells-short _ _ _ _ (c .before .before .before .before .before .before .before .cut-at .ensures .1)
+
+part-xs-end : tie.Need-part-xs-end
+part-xs-end c = omega arith
+
+part-ys-end : tie.Need-part-ys-end
+part-ys-end c = omega arith
+
+part-zs-end : tie.Need-part-zs-end
+part-zs-end c = omega arith
 
 part-cs-end : tie.Need-part-cs-end
-part-cs-end c = search (needs, at-most)
+part-cs-end c =
+    let a = c .before .before .before .before .before .before .before .before .before .before .before .before .before .before .before .before .before .before .args in
+    let n = c .before .before .before .before .before .before .before .before .before .before .before .cut-at in
+    omega (arith, cells-short (a .g) (n .result) 128 (drop (a .g + 1) (now (a .f))) (n .ensures .1))
 
 move-into-requires : tie.Need-move-into-requires
-move-into-requires c κs = (search (needs, at-most), (c .before .before .before .before .before .before .before .copied .ensures, c .before .before .before .before .before .before .copied2 .ensures, c .before .before .before .before .before .copied3 .ensures, c .before .before .before .before .copied4 .ensures))
+move-into-requires c κs =
+    let a = c .before .before .before .before .before .before .before .before .before .before .before .before .before .before .before .before .before .before .before .args in
+    let n = c .before .before .before .before .before .before .before .before .before .before .before .before .cut-at in
+    (omega (arith, cells-short (a .g) (n .result) 128 (drop (a .g + 1) (now (a .f))) (n .ensures .1)), (c .before .before .before .before .before .before .before .copied .ensures, c .before .before .before .before .before .before .copied2 .ensures, c .before .before .before .before .before .copied3 .ensures, c .before .before .before .before .copied4 .ensures))
 
 returns : tie.Need-returns
 returns c =
@@ -23,4 +39,4 @@ returns c =
     behind-mesh (a .rule) (now (a .f)) (now (a .w)) (a .g) _ _ (now (a .t0)) (now (a .t1)) (now (a .t2)) (c .before .before .before .before .before .before .before .before .before .before .before .before .before .before .before .before .before .cut-at .ensures .0) (c .before .before .before .before .before .before .before .before .before .before .before .before .before .vector .ensures) (c .before .before .before .before .before .before .before .before .before .before .before .before .copied .ensures) (c .before .before .before .before .before .before .before .before .before .before .before .copied2 .ensures) (c .before .before .before .before .before .before .before .before .before .before .copied3 .ensures) (c .before .before .before .before .before .before .before .before .before .copied4 .ensures) (c .before .before .before .before .move-into .ensures)
 
 pub move-of-spec : {M : Type 1} → statement M
-move-of-spec = tie.close (tie.spec (search needs) (λ c. fits-under w64 _ 4096 (omega arith) tt) (λ c. fits-under w64 _ 4096 (omega arith) tt) (λ c. fits-under w64 _ 4096 (omega arith) tt) (λ c. fits-under w64 _ 4096 (omega arith) tt) (search needs) (search needs) (search needs) (λ c. fits-under w64 _ 4096 (omega arith) tt) (λ c. fits-under w64 _ 4096 (omega arith) tt) (λ c. fits-under w64 _ 4096 (omega arith) tt) (λ c. omega arith) (λ c. fits-under w64 _ 4096 (omega arith) tt) (λ c. fits-under w64 _ 4096 (omega arith) tt) (λ c κs. omega arith) (search needs) (search needs) (search needs) copied-requires-4 (search needs) (search needs) (search needs) (search needs) (search needs) (search needs) (search needs) (search needs) (search needs) (search needs) (search needs) part-cs-end (λ c. fits-under w64 _ 4096 (omega arith) tt) (λ c. fits-under w64 _ 4096 (omega arith) tt) move-into-requires returns)
+move-of-spec = tie.close (tie.spec (λ c κs. omega arith) (λ c. places _ _ (c .before .before .before .before .before .before .before .before .pre .0) (c .before .cut-at .ensures .1) .one) (λ c. places _ _ (c .before .before .before .before .before .before .before .before .pre .0) (c .before .cut-at .ensures .1) .one) (λ c. places _ _ (c .before .before .before .before .before .before .before .before .pre .0) (c .before .cut-at .ensures .1) .matrix-end) (λ c. places _ _ (c .before .before .before .before .before .before .before .before .pre .0) (c .before .cut-at .ensures .1) .one-bytes) (λ c. le-add-right _ _) (λ c. le-add-right _ _) (λ c. omega arith) (λ c. places _ _ (c .before .before .before .before .before .before .before .before .before .pre .0) (c .before .before .cut-at .ensures .1) .one) (λ c. places _ _ (c .before .before .before .before .before .before .before .before .before .pre .0) (c .before .before .cut-at .ensures .1) .matrix-end) (λ c. places _ _ (c .before .before .before .before .before .before .before .before .before .pre .0) (c .before .before .cut-at .ensures .1) .end-bytes) (λ c. places _ _ (c .before .before .before .before .before .before .before .before .before .pre .0) (c .before .before .cut-at .ensures .1) .inside) (λ c. places _ _ (c .before .before .before .before .before .before .before .before .before .before .pre .0) (c .before .before .before .cut-at .ensures .1) .two) (λ c. places _ _ (c .before .before .before .before .before .before .before .before .before .before .pre .0) (c .before .before .before .cut-at .ensures .1) .place) (λ c κs. omega arith) (λ c κs. column-short _ (c .before .before .before .before .before .before .before .before .before .before .before .pre .1)) (λ c κs. column-short _ (c .before .before .before .before .before .before .before .before .before .before .before .before .pre .2)) (λ c κs. column-short _ (c .before .before .before .before .before .before .before .before .before .before .before .before .before .pre .3)) copied-requires-4 (λ c. zero≤) (λ c. zero≤) part-xs-end (λ c. zero≤) (λ c. zero≤) part-ys-end (λ c. zero≤) (λ c. zero≤) part-zs-end (λ c. zero≤) (λ c. zero≤) part-cs-end (λ c. places _ _ (c .before .before .before .before .before .before .before .before .before .before .before .before .before .before .before .before .before .before .before .pre .0) (c .before .before .before .before .before .before .before .before .before .before .before .before .cut-at .ensures .1) .five) (λ c. places _ _ (c .before .before .before .before .before .before .before .before .before .before .before .before .before .before .before .before .before .before .before .pre .0) (c .before .before .before .before .before .before .before .before .before .before .before .before .cut-at .ensures .1) .results) move-into-requires returns)

@@ -1,6 +1,5 @@
 -- The mesh's number stops the call, or the two checks after the mesh's decide.
 use mathlib.Core.Path.{_≡_}
-use borrow.Author.Needs.{needs}
 use borrow.Author.Tests.{ne-eqb, eq-eqb}
 use denote.Ref.{now}
 use Rattle.mesh.specs.Refusal.{first}
@@ -39,4 +38,4 @@ returns-4 c =
     rw (p, eq-eqb _ _ (c .before .before .if2 .left), ← c .before .outputs-differ .ensures, c .if3 .left)
 
 pub density-refusal-spec : {M : Type 1} → statement M
-density-refusal-spec = tie.close (tie.spec (search needs) returns returns-2 (search needs) returns-3 returns-4)
+density-refusal-spec = tie.close (tie.spec (λ c κs. tt) returns returns-2 (λ c κs. tt) returns-3 returns-4)

@@ -1,7 +1,6 @@
 -- What an accepted mesh says of panel i is what each reader requires; the callees' results are put in place.
 use mathlib.Core.Path.{_≡_, sym}
 use native.Mathlib.Omega.{arith}
-use borrow.Author.Needs.{needs}
 use denote.Ref.{now}
 use lib.ListN.{length}
 use Rattle.boundary_element.specs.CurrentDensity.{panelDensity}
@@ -25,4 +24,4 @@ returns c =
     rw (c .triangle-current-density .ensures, b1 .triangle-scalars .ensures, b2 .triangle-indices .ensures, b3 .triangle-nodes .ensures)
 
 pub panel-density-spec : {M : Type 1} → statement M
-panel-density-spec = tie.close (tie.spec triangle-nodes-requires (search needs) triangle-scalars-requires (search needs) returns)
+panel-density-spec = tie.close (tie.spec triangle-nodes-requires (λ c κs. omega arith) triangle-scalars-requires (λ c κs. tt) returns)

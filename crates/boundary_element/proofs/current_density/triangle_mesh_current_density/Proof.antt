@@ -1,6 +1,6 @@
 -- A refusal leaves the outputs as they were; a call that is done is ready for the loop, which fills them.
 use mathlib.Core.Path.{_≡_, refl, sym, _∙_}
-use borrow.Author.Needs.{needs}
+use native.Mathlib.Omega.{arith}
 use denote.Ref.{now}
 use Rattle.mesh.specs.Refusal.{after-done, after-refused}
 use Rattle.mesh.specs.Mesh.{Mesh, meshOf}
@@ -31,4 +31,4 @@ returns-2 c =
     }
 
 pub triangle-mesh-current-density-spec : {M : Type 1} → statement M
-triangle-mesh-current-density-spec = tie.close (tie.spec (search needs) returns fill-densities-requires (search needs) (search needs) (search needs) returns-2)
+triangle-mesh-current-density-spec = tie.close (tie.spec (λ c κs. tt) returns fill-densities-requires (λ c. omega arith) (λ c. omega arith) (λ c. omega arith) returns-2)

@@ -1,6 +1,6 @@
 -- The callees' results are put in place, one after the other.
 use Rattle.boundary_element.specs.Identity.{matchesCorner}
-use borrow.Author.Needs.{needs}
+use native.Mathlib.Omega.{arith}
 use Rattle.boundary_element.proofs.identity.matches_corner.Statement.{statement}
 use Rattle.boundary_element.proofs.identity.matches_corner.Tie as tie
 
@@ -13,5 +13,4 @@ returns c =
 pub matches-corner-spec : {M : Type 1} → statement M
 matches-corner-spec =
     tie.close
-    (tie.spec (search needs) (search needs) (search needs) (search needs) (search needs) (search needs)
-    returns)
+    (tie.spec (λ c. omega arith) (λ c κs. tt) (λ c. omega arith) (λ c κs. tt) (λ c. omega arith) (λ c κs. tt) returns)

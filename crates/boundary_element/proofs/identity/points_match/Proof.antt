@@ -1,6 +1,5 @@
 -- The callees' results are put in place, one after the other.
 use Rattle.boundary_element.specs.Identity.{pointsMatch}
-use borrow.Author.Needs.{needs}
 use Rattle.boundary_element.proofs.identity.points_match.Statement.{statement}
 use Rattle.boundary_element.proofs.identity.points_match.Tie as tie
 
@@ -13,4 +12,4 @@ returns c =
 pub points-match-spec : {M : Type 1} → statement M
 points-match-spec =
     tie.close
-    (tie.spec (search needs) (search needs) returns)
+    (tie.spec (λ c κs. tt) (λ c κs. tt) returns)

@@ -1,6 +1,6 @@
 -- The callees' results are put in place, one after the other.
 use Rattle.boundary_element.specs.Identity.{trianglesIdentical}
-use borrow.Author.Needs.{needs}
+use native.Mathlib.Omega.{arith}
 use Rattle.boundary_element.proofs.identity.triangles_identical.Statement.{statement}
 use Rattle.boundary_element.proofs.identity.triangles_identical.Tie as tie
 
@@ -13,5 +13,4 @@ returns c =
 pub triangles-identical-spec : {M : Type 1} → statement M
 triangles-identical-spec =
     tie.close
-    (tie.spec (search needs) (search needs) (search needs) (search needs) (search needs) (search needs)
-    returns)
+    (tie.spec (λ c. omega arith) (λ c κs. tt) (λ c. omega arith) (λ c κs. tt) (λ c. omega arith) (λ c κs. tt) returns)

@@ -1,5 +1,5 @@
 -- The three lengths and the choice among them, by their contracts.
-use borrow.Author.Needs.{needs}
+use native.Mathlib.Omega.{arith}
 use Rattle.coupling.specs.Bisection as Spec
 use Rattle.coupling.proofs.bisection.longest_edge.Statement.{statement}
 use Rattle.coupling.proofs.bisection.longest_edge.Tie as tie
@@ -15,5 +15,4 @@ returns c =
 pub longest-edge-spec : {M : Type 1} → statement M
 longest-edge-spec =
     tie.close
-    (tie.spec (search needs) (search needs) (search needs) (search needs) (search needs) (search needs)
-    (search needs) (search needs) (search needs) (search needs) returns)
+    (tie.spec (λ c. omega arith) (λ c. omega arith) (λ c κs. tt) (λ c. omega arith) (λ c. omega arith) (λ c κs. tt) (λ c. omega arith) (λ c. omega arith) (λ c κs. tt) (λ c κs. tt) returns)

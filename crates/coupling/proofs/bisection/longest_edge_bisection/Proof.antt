@@ -1,5 +1,5 @@
 -- The edge by its contract, and the halves at it.
-use borrow.Author.Needs.{needs}
+use native.Mathlib.Omega.{arith}
 use Rattle.coupling.specs.Bisection as Spec
 use Rattle.coupling.proofs.bisection.longest_edge_bisection.Statement.{statement}
 use Rattle.coupling.proofs.bisection.longest_edge_bisection.Tie as tie
@@ -13,5 +13,4 @@ returns c =
 pub longest-edge-bisection-spec : {M : Type 1} → statement M
 longest-edge-bisection-spec =
     tie.close
-    (tie.spec (search needs) (search needs) (search needs) (search needs) (search needs) (search needs)
-    (search needs) (search needs) (search needs) (search needs) returns)
+    (tie.spec (λ c κs. tt) (λ c. omega arith) (λ c. omega arith) (λ c. omega arith) (λ c. omega arith) (λ c. omega arith) (λ c. omega arith) (λ c. omega arith) (λ c. omega arith) (λ c κs. tt) returns)

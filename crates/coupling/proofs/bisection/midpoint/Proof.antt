@@ -1,6 +1,6 @@
 -- Nothing is called: the code's expression is the definition's.
 use mathlib.Core.Path.{refl}
-use borrow.Author.Needs.{needs}
+use native.Mathlib.Omega.{arith}
 use Rattle.coupling.specs.Bisection as Spec
 use Rattle.coupling.proofs.bisection.midpoint.Statement.{statement}
 use Rattle.coupling.proofs.bisection.midpoint.Tie as tie
@@ -12,5 +12,4 @@ returns c = refl
 pub midpoint-spec : {M : Type 1} → statement M
 midpoint-spec =
     tie.close
-    (tie.spec (search needs) (search needs) (search needs) (search needs) (search needs) (search needs)
-    returns)
+    (tie.spec (λ c. omega arith) (λ c. omega arith) (λ c. omega arith) (λ c. omega arith) (λ c. omega arith) (λ c. omega arith) returns)

@@ -1,5 +1,5 @@
 -- The three rows by their contracts, put together element by element.
-use borrow.Author.Needs.{needs}
+use native.Mathlib.Omega.{arith}
 use Rattle.coupling.specs.Block as Spec
 use Rattle.coupling.proofs.block.block_from_coupling.Statement.{statement}
 use Rattle.coupling.proofs.block.block_from_coupling.Tie as tie
@@ -13,6 +13,4 @@ returns c =
 pub block-from-coupling-spec : {M : Type 1} → statement M
 block-from-coupling-spec =
     tie.close
-    (tie.spec (search needs) (search needs) (search needs) (search needs) (search needs) (search needs)
-    (search needs) (search needs) (search needs) (search needs) (search needs) (search needs) (search needs)
-    (search needs) (search needs) returns)
+    (tie.spec (λ c. omega arith) (λ c κs. tt) (λ c. omega arith) (λ c κs. tt) (λ c. omega arith) (λ c κs. tt) (λ c. omega arith) (λ c. omega arith) (λ c. omega arith) (λ c. omega arith) (λ c. omega arith) (λ c. omega arith) (λ c. omega arith) (λ c. omega arith) (λ c. omega arith) returns)

@@ -1,5 +1,5 @@
 -- The three entries, by their contracts.
-use borrow.Author.Needs.{needs}
+use native.Mathlib.Omega.{arith}
 use Rattle.coupling.specs.Block as Spec
 use Rattle.coupling.proofs.block.block_row.Statement.{statement}
 use Rattle.coupling.proofs.block.block_row.Tie as tie
@@ -13,5 +13,4 @@ returns c =
 pub block-row-spec : {M : Type 1} → statement M
 block-row-spec =
     tie.close
-    (tie.spec (search needs) (search needs) (search needs) (search needs) (search needs) (search needs)
-    returns)
+    (tie.spec (λ c. omega arith) (λ c κs. tt) (λ c. omega arith) (λ c κs. tt) (λ c. omega arith) (λ c κs. tt) returns)

@@ -1,5 +1,4 @@
 -- The constant and the product, by their contracts.
-use borrow.Author.Needs.{needs}
 use Rattle.coupling.specs.Block as Spec
 use Rattle.coupling.proofs.block.entry.Statement.{statement}
 use Rattle.coupling.proofs.block.entry.Tie as tie
@@ -13,4 +12,4 @@ returns c =
 pub entry-spec : {M : Type 1} → statement M
 entry-spec =
     tie.close
-    (tie.spec (search needs) (search needs) returns)
+    (tie.spec (λ c κs. tt) (λ c κs. tt) returns)

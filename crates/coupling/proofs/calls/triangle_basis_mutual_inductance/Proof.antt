@@ -1,6 +1,6 @@
 -- A corner above 2 is refused; otherwise as in triangle_geometric_coupling.
 use borrow.Author.Tests.{lt-ltb, le-ltb}
-use borrow.Author.Needs.{needs}
+use native.Mathlib.Omega.{arith}
 use Rattle.coupling.specs.Calls as Spec
 use Rattle.coupling.proofs.calls.triangle_basis_mutual_inductance.Statement.{statement}
 use Rattle.coupling.proofs.calls.triangle_basis_mutual_inductance.Tie as tie
@@ -29,6 +29,4 @@ returns-4 c =
 pub triangle-basis-mutual-inductance-spec : {M : Type 1} → statement M
 triangle-basis-mutual-inductance-spec =
     tie.close
-    (tie.spec (search needs) returns (search needs) returns-2 (search needs) (search needs) (search needs)
-    (search needs) (search needs) (search needs) (search needs) (search needs) (search needs) returns-3
-    returns-4)
+    (tie.spec (λ c κs. tt) returns (λ c κs. tt) returns-2 (λ c κs. tt) (λ c. omega arith) (λ c κs. tt) (λ c. omega arith) (λ c. omega arith) (λ c. omega arith) (λ c. omega arith) (λ c. omega arith) (λ c κs. tt) returns-3 returns-4)

@@ -1,5 +1,5 @@
 -- As in triangle_geometric_coupling: in each arm the rule is known.
-use borrow.Author.Needs.{needs}
+use native.Mathlib.Omega.{arith}
 use Rattle.coupling.specs.Calls as Spec
 use Rattle.coupling.proofs.calls.triangle_basis_mutual_inductance_block.Statement.{statement}
 use Rattle.coupling.proofs.calls.triangle_basis_mutual_inductance_block.Tie as tie
@@ -17,4 +17,4 @@ returns-2 c = rw (← c .before .before .quadrature-rule .ensures, c .enum-told 
 pub triangle-basis-mutual-inductance-block-spec : {M : Type 1} → statement M
 triangle-basis-mutual-inductance-block-spec =
     tie.close
-    (tie.spec (search needs) (search needs) (search needs) (search needs) returns returns-2)
+    (tie.spec (λ c κs. tt) (λ c. omega arith) (λ c κs. tt) (λ c. omega arith) returns returns-2)

@@ -1,5 +1,5 @@
 -- The rule is the definition's by its contract; in each arm it is known, and the definition computes.
-use borrow.Author.Needs.{needs}
+use native.Mathlib.Omega.{arith}
 use Rattle.coupling.specs.Calls as Spec
 use Rattle.coupling.proofs.calls.triangle_geometric_coupling.Statement.{statement}
 use Rattle.coupling.proofs.calls.triangle_geometric_coupling.Tie as tie
@@ -19,4 +19,4 @@ returns-2 c =
 pub triangle-geometric-coupling-spec : {M : Type 1} → statement M
 triangle-geometric-coupling-spec =
     tie.close
-    (tie.spec (search needs) (search needs) (search needs) (search needs) (search needs) returns returns-2)
+    (tie.spec (λ c κs. tt) (λ c. omega arith) (λ c κs. tt) (λ c. omega arith) (λ c κs. tt) returns returns-2)

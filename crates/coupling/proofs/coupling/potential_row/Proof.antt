@@ -1,5 +1,5 @@
 -- The point, the difference and its norm, by their contracts.
-use borrow.Author.Needs.{needs}
+use native.Mathlib.Omega.{arith}
 use Rattle.coupling.specs.Coupling as Spec
 use Rattle.coupling.proofs.coupling.potential_row.Statement.{statement}
 use Rattle.coupling.proofs.coupling.potential_row.Tie as tie
@@ -13,5 +13,4 @@ returns c =
 pub potential-row-spec : {M : Type 1} → statement M
 potential-row-spec =
     tie.close
-    (tie.spec (search needs) (search needs) (search needs) (search needs) (search needs) (search needs)
-    returns)
+    (tie.spec (λ c. omega arith) (λ c. omega arith) (λ c κs. tt) (λ c κs. tt) (λ c κs. tt) (λ c. omega arith) returns)

@@ -1,5 +1,5 @@
 -- The point and the potential there, by their contracts.
-use borrow.Author.Needs.{needs}
+use native.Mathlib.Omega.{arith}
 use Rattle.coupling.specs.Coupling as Spec
 use Rattle.coupling.proofs.coupling.regular_row.Statement.{statement}
 use Rattle.coupling.proofs.coupling.regular_row.Tie as tie
@@ -13,4 +13,4 @@ returns c =
 pub regular-row-spec : {M : Type 1} → statement M
 regular-row-spec =
     tie.close
-    (tie.spec (search needs) (search needs) (search needs) (search needs) (search needs) returns)
+    (tie.spec (λ c. omega arith) (λ c. omega arith) (λ c κs. tt) (λ c. omega arith) (λ c κs. tt) returns)

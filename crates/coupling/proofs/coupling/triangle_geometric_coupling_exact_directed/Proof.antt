@@ -9,7 +9,7 @@ use Rattle.tri.specs.Mapping.{Tri, area, mapPoint}
 use Rattle.tri.specs.Quadrature.{quadratureRow, quadratureCount}
 use Rattle.tri.specs.declared.quadrature.QuadratureKind.{QuadratureKind}
 use Rattle.potential.specs.Potential.{scalarPotential}
-use Rattle.potential.specs.Seven.{point}
+use Rattle.potential_lanes.specs.Seven.{point}
 use Rattle.potential.specs.declared.UniformTriangle.{UniformTriangle}
 use Rattle.panel_points.specs.declared.Points.{Points}
 use Rattle.panel_points.specs.Points.{coordinates, triangle, pointsOf, sumTo}
@@ -46,15 +46,15 @@ weighted-requires c κs = rw (c .before .quadrature-count .ensures) (few _)
 
 returns : tie.Need-returns
 returns c =
-    let b1 = c .before in let b2 = b1 .before in let b7 = b2 .before .before .before .before .before in let b8 = b7 .before in let b9 = b8 .before in
-    let a = b9 .before .args in
+    let b1 = c .before in let b2 = b1 .before in let b7 = b2 .before .before .before .before .before in let b8 = b7 .before in let b9 = b8 .before in let b10 = b9 .before in
+    let a = b10 .before .args in
     let pot = b1 .scalar-potentials .result in
-    let e : b7 .points-of .result ≡ pointsOf (a .kind) (coordinates (a .target)) (area (a .target)) = rw (b7 .points-of .ensures, b8 .area .ensures, b9 .nine .ensures) in
+    let e : b7 .points-by .result ≡ pointsOf (a .kind) (coordinates (a .target)) (area (a .target)) = rw (b7 .points-by .ensures, b8 .area .ensures, b9 .nine .ensures, b10 .rows-of .ensures) in
     c .weighted .ensures
-    ∙ ap (sumTo (λ (j : ℕ). at (b7 .points-of .result .w) j ⊗ at pot j)) (b2 .quadrature-count .ensures)
+    ∙ ap (sumTo (λ (j : ℕ). at (b7 .points-by .result .w) j ⊗ at pot j)) (b2 .quadrature-count .ensures)
     ∙ ap (λ (q : Points). sumTo (λ (j : ℕ). at (q .w) j ⊗ at pot j) (quadratureCount (a .kind))) e
     ∙ leaf (a .source) (a .target) (a .kind) pot (λ i h. b1 .scalar-potentials .ensures i h ∙ ap (λ (q : Points). scalarPotential (a .source) (point (q .x) (q .y) (q .z) i)) e)
 
 pub triangle-geometric-coupling-exact-directed-spec : {M : Type 1} → statement M
 triangle-geometric-coupling-exact-directed-spec =
-    tie.close (tie.spec (λ c κs. tt) (λ c κs. tt) (λ c κs. tt) (λ c κs. tt) (λ c κs. tt) weighted-requires returns)
+    tie.close (tie.spec (λ c κs. tt) (λ c κs. tt) (λ c κs. tt) (λ c κs. tt) (λ c κs. tt) (λ c κs. tt) weighted-requires returns)

@@ -1,5 +1,4 @@
 -- The two directions, by their contracts.
-use borrow.Author.Needs.{needs}
 use Rattle.coupling.specs.Coupling as Spec
 use Rattle.coupling.proofs.coupling.triangle_geometric_coupling_regular_symmetric.Statement.{statement}
 use Rattle.coupling.proofs.coupling.triangle_geometric_coupling_regular_symmetric.Tie as tie
@@ -13,4 +12,4 @@ returns c =
 pub triangle-geometric-coupling-regular-symmetric-spec : {M : Type 1} → statement M
 triangle-geometric-coupling-regular-symmetric-spec =
     tie.close
-    (tie.spec (search needs) (search needs) returns)
+    (tie.spec (λ c κs. tt) (λ c κs. tt) returns)

@@ -2,7 +2,6 @@
 use mathlib.Core.Path.{_≡_, refl}
 use Prim.Native.Nat.{_≤_, _-_}
 use native.Mathlib.Omega.{arith}
-use borrow.Author.Needs.{needs}
 use Rattle.coupling.specs.Coupling as Spec
 use Rattle.coupling.proofs.coupling.triangle_scalar_potential_regular.Statement.{statement}
 use Rattle.coupling.proofs.coupling.triangle_scalar_potential_regular.Tie as tie
@@ -23,7 +22,7 @@ quadrature-row-requires c κs = rw (← c .before .before .quadrature-count .ens
 loop-again : tie.Need-loop-again Inv-loop μ-loop
 loop-again c =
     let l = c .before .before .before .loop in
-    (search needs, rw (Spec.rows-more, ← l .inv .1, c .potential-row .ensures, c .before .quadrature-row .ensures))
+    (omega arith, rw (Spec.rows-more, ← l .inv .1, c .potential-row .ensures, c .before .quadrature-row .ensures))
 
 returns : tie.Need-returns Inv-loop μ-loop
 unfolding Spec.triangleScalarPotentialRegular
@@ -36,5 +35,4 @@ returns c =
 pub triangle-scalar-potential-regular-spec : {M : Type 1} → statement M
 triangle-scalar-potential-regular-spec =
     tie.close
-    (tie.spec Inv-loop μ-loop (search needs) (search needs) loop-holds quadrature-row-requires (search needs)
-    (search needs) (search needs) loop-again returns)
+    (tie.spec Inv-loop μ-loop (λ c κs. tt) (λ c κs. tt) loop-holds quadrature-row-requires (λ c κs. tt) (λ c. omega arith) (λ c. omega arith) loop-again returns)

@@ -1,5 +1,5 @@
 -- The four ends of the boxes and the two calls of max, by their contracts.
-use borrow.Author.Needs.{needs}
+use native.Mathlib.Omega.{arith}
 use Rattle.coupling.specs.Distance as Spec
 use Rattle.coupling.proofs.distance.gap.Statement.{statement}
 use Rattle.coupling.proofs.distance.gap.Tie as tie
@@ -21,5 +21,4 @@ returns c =
 pub gap-spec : {M : Type 1} → statement M
 gap-spec =
     tie.close
-    (tie.spec (search needs) (search needs) (search needs) (search needs) (search needs) (search needs)
-    returns)
+    (tie.spec (λ c κs. omega arith) (λ c κs. omega arith) (λ c κs. omega arith) (λ c κs. omega arith) (λ c κs. tt) (λ c κs. tt) returns)

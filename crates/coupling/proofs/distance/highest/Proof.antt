@@ -1,5 +1,5 @@
 -- The two calls of max, by its contract.
-use borrow.Author.Needs.{needs}
+use native.Mathlib.Omega.{arith}
 use Rattle.coupling.specs.Distance as Spec
 use Rattle.coupling.proofs.distance.highest.Statement.{statement}
 use Rattle.coupling.proofs.distance.highest.Tie as tie
@@ -13,5 +13,4 @@ returns c =
 pub highest-spec : {M : Type 1} → statement M
 highest-spec =
     tie.close
-    (tie.spec (search needs) (search needs) (search needs) (search needs) (search needs) (search needs)
-    (search needs) (search needs) (search needs) (search needs) (search needs) returns)
+    (tie.spec (λ c. omega arith) (λ c. omega arith) (λ c. omega arith) (λ c. omega arith) (λ c. omega arith) (λ c. omega arith) (λ c κs. tt) (λ c. omega arith) (λ c. omega arith) (λ c. omega arith) (λ c κs. tt) returns)

@@ -1,5 +1,4 @@
 -- On each way out the branch taken decides the definition's tests, and the calls give its values.
-use borrow.Author.Needs.{needs}
 use Rattle.coupling.specs.Distance as Spec
 use Rattle.coupling.proofs.distance.kept_offset_squared.Statement.{statement}
 use Rattle.coupling.proofs.distance.kept_offset_squared.Tie as tie
@@ -21,5 +20,4 @@ returns-3 c = rw (c .before .before .if1 .left, c .before .if2 .left, ← c .off
 pub kept-offset-squared-spec : {M : Type 1} → statement M
 kept-offset-squared-spec =
     tie.close
-    (tie.spec (search needs) (search needs) returns (search needs) (search needs) returns-2 (search needs)
-    returns-3)
+    (tie.spec (λ c κs. tt) (λ c κs. tt) returns (λ c κs. tt) (λ c κs. tt) returns-2 (λ c κs. tt) returns-3)

@@ -1,20 +1,8 @@
 -- Three distances and three least values, by their contracts, the last call first.
-use borrow.Author.Needs.{needs}
+use native.Mathlib.Omega.{arith}
 use Rattle.coupling.specs.Distance as Spec
 use Rattle.coupling.proofs.distance.least_of_corners.Statement.{statement}
 use Rattle.coupling.proofs.distance.least_of_corners.Tie as tie
-
-array-copy-out-point-triangle-distance-squared :
-    tie.Need-array-copy-out-point-triangle-distance-squared
-array-copy-out-point-triangle-distance-squared c = search needs
-
-array-copy-out-point-triangle-distance-squared-2 :
-    tie.Need-array-copy-out-point-triangle-distance-squared-2
-array-copy-out-point-triangle-distance-squared-2 c = search needs
-
-array-copy-out-point-triangle-distance-squared-3 :
-    tie.Need-array-copy-out-point-triangle-distance-squared-3
-array-copy-out-point-triangle-distance-squared-3 c = search needs
 
 returns : tie.Need-returns
 unfolding Spec.leastOfCorners
@@ -33,5 +21,4 @@ returns c =
 pub least-of-corners-spec : {M : Type 1} → statement M
 least-of-corners-spec =
     tie.close
-    (tie.spec (search needs) (search needs) (search needs) (search needs) (search needs) (search needs)
-    (search needs) (search needs) (search needs) returns)
+    (tie.spec (λ c. omega arith) (λ c κs. tt) (λ c κs. tt) (λ c. omega arith) (λ c κs. tt) (λ c κs. tt) (λ c. omega arith) (λ c κs. tt) (λ c κs. tt) returns)

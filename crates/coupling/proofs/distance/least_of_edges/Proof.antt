@@ -1,5 +1,5 @@
 -- Three distances and three least values, by their contracts, the last call first.
-use borrow.Author.Needs.{needs}
+use native.Mathlib.Omega.{arith}
 use Rattle.coupling.specs.Distance as Spec
 use Rattle.coupling.proofs.distance.least_of_edges.Statement.{statement}
 use Rattle.coupling.proofs.distance.least_of_edges.Tie as tie
@@ -22,5 +22,4 @@ returns c =
 pub least-of-edges-spec : {M : Type 1} → statement M
 least-of-edges-spec =
     tie.close
-    (tie.spec (search needs) (search needs) (search needs) (search needs) (search needs) (search needs)
-    (search needs) (search needs) (search needs) (search needs) (search needs) (search needs) returns)
+    (tie.spec (λ c. omega arith) (λ c. omega arith) (λ c κs. tt) (λ c κs. tt) (λ c. omega arith) (λ c. omega arith) (λ c κs. tt) (λ c κs. tt) (λ c. omega arith) (λ c. omega arith) (λ c κs. tt) (λ c κs. tt) returns)

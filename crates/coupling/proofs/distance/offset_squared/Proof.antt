@@ -1,5 +1,5 @@
 -- The square by its contract, of the vector that the code builds.
-use borrow.Author.Needs.{needs}
+use native.Mathlib.Omega.{arith}
 use Rattle.coupling.specs.Distance as Spec
 use Rattle.coupling.proofs.distance.offset_squared.Statement.{statement}
 use Rattle.coupling.proofs.distance.offset_squared.Tie as tie
@@ -11,5 +11,4 @@ returns c = rw (c .norm-squared3 .ensures)
 pub offset-squared-spec : {M : Type 1} → statement M
 offset-squared-spec =
     tie.close
-    (tie.spec (search needs) (search needs) (search needs) (search needs) (search needs) (search needs)
-    (search needs) (search needs) (search needs) (search needs) returns)
+    (tie.spec (λ c. omega arith) (λ c. omega arith) (λ c. omega arith) (λ c. omega arith) (λ c. omega arith) (λ c. omega arith) (λ c. omega arith) (λ c. omega arith) (λ c. omega arith) (λ c κs. tt) returns)

@@ -1,5 +1,5 @@
 -- The gaps along three axes, by their contract.
-use borrow.Author.Needs.{needs}
+use native.Mathlib.Omega.{arith}
 use Rattle.coupling.specs.Distance as Spec
 use Rattle.coupling.proofs.distance.triangle_aabb_distance_squared.Statement.{statement}
 use Rattle.coupling.proofs.distance.triangle_aabb_distance_squared.Tie as tie
@@ -13,4 +13,4 @@ returns c =
 pub triangle-aabb-distance-squared-spec : {M : Type 1} → statement M
 triangle-aabb-distance-squared-spec =
     tie.close
-    (tie.spec (search needs) (search needs) (search needs) returns)
+    (tie.spec (λ c κs. omega arith) (λ c κs. omega arith) (λ c κs. omega arith) returns)

@@ -1,5 +1,5 @@
 -- The five steps by their contracts, from infinity on, the last call first.
-use borrow.Author.Needs.{needs}
+use native.Mathlib.Omega.{arith}
 use Rattle.coupling.specs.Distance as Spec
 use Rattle.coupling.proofs.distance.triangle_distance_squared.Statement.{statement}
 use Rattle.coupling.proofs.distance.triangle_distance_squared.Tie as tie
@@ -22,5 +22,4 @@ returns c =
 pub triangle-distance-squared-spec : {M : Type 1} → statement M
 triangle-distance-squared-spec =
     tie.close
-    (tie.spec (search needs) (search needs) (search needs) (search needs) (search needs) (search needs)
-    (search needs) (search needs) (search needs) (search needs) (search needs) (search needs) returns)
+    (tie.spec (λ c κs. tt) (λ c κs. tt) (λ c κs. tt) (λ c. omega arith) (λ c. omega arith) (λ c κs. tt) (λ c. omega arith) (λ c. omega arith) (λ c κs. tt) (λ c. omega arith) (λ c. omega arith) (λ c κs. tt) returns)

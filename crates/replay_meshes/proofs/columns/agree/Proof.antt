@@ -1,6 +1,6 @@
 -- The two tests of the kind.
 use Rattle.replay_meshes.specs.Meshes.{meshesAgree}
-use borrow.Author.Needs.{needs}
+use native.Mathlib.Omega.{arith}
 use Rattle.replay_meshes.proofs.columns.agree.Statement.{statement}
 use Rattle.replay_meshes.proofs.columns.agree.Tie as tie
 
@@ -17,4 +17,4 @@ unfolding meshesAgree
 returns-3 c = rw (c .before .if1 .left, c .if2 .left)
 
 pub agree-spec : {M : Type 1} → statement M
-agree-spec = tie.close (tie.spec (search needs) returns (search needs) returns-2 returns-3)
+agree-spec = tie.close (tie.spec (λ c κs. omega arith) returns (λ c κs. omega arith) returns-2 returns-3)

@@ -2,7 +2,6 @@
 use borrow.Author.Tests.{eq-eqb, ne-eqb}
 use native.Mathlib.Omega.{arith}
 use Rattle.replay_meshes.specs.Meshes.{ofMesh}
-use borrow.Author.Needs.{needs}
 use Rattle.replay_meshes.proofs.columns.of_mesh.Statement.{statement}
 use Rattle.replay_meshes.proofs.columns.of_mesh.Tie as tie
 
@@ -31,4 +30,4 @@ unfolding ofMesh
 returns-6 c = rw (ne-eqb _ _ (c .before .before .before .before .if1 .left), ne-eqb _ _ (c .before .before .before .if2 .left), ne-eqb _ _ (c .before .before .if3 .left), ne-eqb _ _ (c .before .if4 .left), ne-eqb _ _ (c .if5 .left))
 
 pub of-mesh-spec : {M : Type 1} → statement M
-of-mesh-spec = tie.close (tie.spec (λ c. omega arith) (search needs) (search needs) returns (search needs) returns-2 (search needs) returns-3 (search needs) returns-4 (search needs) returns-5 returns-6)
+of-mesh-spec = tie.close (tie.spec (λ c. omega arith) (λ c κs. tt) (λ c κs. c .before .before .before .before .before .before .before .before .before .pre .0) returns (λ c κs. c .before .before .before .before .before .before .before .before .before .before .pre .0) returns-2 (λ c κs. c .before .before .before .before .before .before .before .before .before .before .before .pre .0) returns-3 (λ c κs. c .before .before .before .before .before .before .before .before .before .before .before .before .pre .0) returns-4 (λ c κs. c .before .before .before .before .before .before .before .before .before .before .before .before .before .pre) returns-5 returns-6)

@@ -1,0 +1,4 @@
+-- What the proofs share.
+pub mod Each
+pub mod Normal
+pub mod Arctangent

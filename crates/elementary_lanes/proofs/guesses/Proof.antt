@@ -1,0 +1,35 @@
+-- After i turns the first i guesses are in place.
+use Prim.Native.Nat.{ℕ, _-_}
+use native.Mathlib.Nat.{not-suc-le-zero}
+use native.Mathlib.Omega.{arith}
+use mir.Syntax.{w64}
+use borrow.Author.Needs.{fits-under}
+use Rattle.binary64.specs.Binary64.{at}
+use Rattle.square_root.specs.Estimate.{guess}
+use Rattle.elementary_lanes.proofs.Each.{Filled, filled-next, filled-all}
+use Rattle.elementary_lanes.proofs.guesses.Statement.{statement}
+use Rattle.elementary_lanes.proofs.guesses.Tie as tie
+
+abbrev Inv-loop : tie.InvT-loop
+Inv-loop s out₀ i₀ out i = Filled 14 (λ (k : ℕ). guess (at s k)) out i
+
+abbrev μ-loop : tie.MeasureT-loop
+μ-loop s out₀ i₀ out i = 14 - i
+
+loop-holds : tie.Need-loop-holds Inv-loop μ-loop
+loop-holds c = (omega arith, omega arith, λ i h. absurd (not-suc-le-zero h))
+
+loop-again : tie.Need-loop-again Inv-loop μ-loop
+loop-again c =
+    let l = c .before .before .loop in
+    let a = c .before .before .before .args in
+    filled-next 14 (λ (k : ℕ). guess (at (a .t1) k)) (l .out) (l .i) (c .guess .result) (omega arith) (c .guess .ensures) (l .inv)
+
+returns : tie.Need-returns Inv-loop μ-loop
+returns c =
+    let l = c .before .loop in
+    let a = c .before .before .args in
+    filled-all 14 (λ (k : ℕ). guess (at (a .t1) k)) (l .out) (l .i) (omega arith) (l .inv)
+
+pub guesses-spec : {M : Type 1} → statement M
+guesses-spec = tie.close (tie.spec Inv-loop μ-loop loop-holds (λ c. fits-under w64 _ 4096 (omega arith) tt) (λ c. omega arith) (λ c κs. tt) (λ c. fits-under w64 _ 4096 (omega arith) tt) (λ c. omega arith) (λ c. fits-under w64 _ 4096 (omega arith) tt) (λ c. omega arith) loop-again returns)

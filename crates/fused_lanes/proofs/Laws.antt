@@ -1,0 +1,9 @@
+pub mod Rounded
+pub mod Around
+pub mod Square
+pub mod Tail
+pub mod Between
+pub mod Margin
+pub mod Pattern
+pub mod Lane
+pub mod Stays

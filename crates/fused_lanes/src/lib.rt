@@ -1,0 +1,101 @@
+// x * x + z rounded once, by float operations without a branch: a loop over arrays is laid out in lanes. The rounded sum
+// s of the rounded square and z, and what both roundings left off, v, are nearly the exact sum; where s + v is
+// rounded alike with a margin below and above, it is the answer.
+ghost use mathlib.Core.Bool.{cond, false, _&&_};
+ghost use mathlib.Core.Path.{_≡_};
+ghost use Prim.Native.Nat.{_≤_};
+ghost use lib.Ieee.{isNan, nan};
+ghost use Rattle.fused_integer.specs.Fma.{fma};
+ghost use Rattle.fused_lanes.specs.Lanes as Spec;
+
+const TWO_TO_MINUS_400: f64 = 3.8725919148493183e-121;
+
+const TWO_TO_MINUS_200: f64 = 6.223015277861142e-61;
+
+const TWO_TO_MINUS_70: f64 = 8.470329472543003e-22;
+
+const TWO_TO_200: f64 = 1.6069380442589903e60;
+
+const TWO_TO_400: f64 = 2.5822498780869086e120;
+
+// Both values are at hand: a lane has no branch.
+fn select(c: bool, a: f64, b: f64) -> f64
+    ensures { λ r. ⌜ r ≡ cond c a b ⌝ }
+{
+    if c { a } else { b }
+}
+
+// No constant may be a NaN.
+fn not_a_number() -> f64
+    ensures { λ r. ⌜ r ≡ nan ⌝ }
+{
+    0.0 / 0.0
+}
+
+// x, or 0 for a NaN, which has no pattern.
+fn number(x: f64) -> f64
+    ensures { λ r. ⌜ r ≡ Spec.number x ⌝ }
+    ensures { λ r. ⌜ isNan r ≡ false ⌝ }
+{
+    if x == x { x } else { 0.0 }
+}
+
+// The pattern of |x|.
+fn pattern(x: f64) -> u64
+    ensures { λ r. ⌜ r ≡ Spec.pattern x ⌝ }
+    ensures { λ r. ⌜ r ≤ 0x7ff0_0000_0000_0000 ⌝ }
+{
+    f64::to_bits(number(x)) % 0x8000_0000_0000_0000
+}
+
+// The 26 leading digits: their square is exact.
+fn leading(b: u64) -> f64
+    requires { ⌜ b ≤ 0x7ff0_0000_0000_0000 ⌝ }
+    ensures { λ r. ⌜ r ≡ Spec.leading b ⌝ }
+{
+    f64::from_bits(b - b % 0x800_0000)
+}
+
+// Nearly a * a - q, for the rounded square q.
+fn square_rest(a: f64, h: f64, q: f64) -> f64
+    ensures { λ r. ⌜ r ≡ Spec.squareRest a h q ⌝ }
+{
+    (a - h) * (a + h) - (q - h * h)
+}
+
+// q + z - s, for the rounded sum s: the larger term is taken off first.
+fn sum_rest(q: f64, z: f64, s: f64) -> f64
+    ensures { λ r. ⌜ r ≡ Spec.sumRest q z s ⌝ }
+{
+    let below = z < q;
+    select(below, z, q) - (s - select(below, q, z))
+}
+
+// s + v where the margin changes nothing, and else r.
+fn settled(ok: bool, s: f64, v: f64, r: f64) -> f64
+    ensures { λ y. ⌜ y ≡ Spec.settled ok s v r ⌝ }
+{
+    let u = s * TWO_TO_MINUS_70;
+    let high = s + (v + u);
+    select((high <= s + (v - u)) & ok, high, r)
+}
+
+// fma x x z, or NaN where the test does not settle it.
+pub fn square_add(x: f64, z: f64) -> f64
+    ensures { λ r. ⌜ r ≡ Spec.squareAdd x z ⌝ }
+    ensures { λ r. ⌜ (isNan r ≡ false → r ≡ fma x x z) ⌝ }
+{
+    let b = pattern(x);
+    let a = f64::from_bits(b);
+    let q = a * a;
+    let s = q + z;
+    let v = square_rest(a, leading(b), q) + sum_rest(q, z, s);
+    let plain = (a >= TWO_TO_MINUS_200) & (a <= TWO_TO_200);
+    let alone = select(plain & (z == 0.0), q, not_a_number());
+    settled(
+        plain & ((z >= TWO_TO_MINUS_400) & (z <= TWO_TO_400)),
+        s,
+        v,
+        alone,
+    )
+}

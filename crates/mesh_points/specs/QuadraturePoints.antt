@@ -1,0 +1,104 @@
+-- boundary_element/mod.rs: the quadrature points of every panel and their area weights, panel after panel. Definitions only.
+use Prim.Native.Nat.{ℕ, _*_, _/_, _%_, _≤_}
+use mathlib.Core.Path.{_≡_}
+use mathlib.Core.Bool.{Bool, not, _||_}
+use mathlib.Core.List.{List, [], _∷_, _++_}
+use lib.Dec.{eqb}
+use lib.ListN.{length, set}
+use lib.Ieee.{Float}
+use Rattle.binary64.specs.Binary64.{_⊗_, at}
+use Rattle.math.specs.Math.{Vec}
+use Rattle.tri.specs.Mapping.{Tri, area, mapPoint}
+use Rattle.tri.specs.Quadrature.{quadratureRow, quadratureCount}
+use Rattle.tri.specs.declared.quadrature.QuadratureKind.{QuadratureKind}
+use Rattle.tri.specs.declared.quadrature.Rule.{Rule}
+use Rattle.tri.specs.declared.quadrature.Rule.the-variants.{Known, Unknown}
+use Rattle.mesh.specs.Refusal.{Check, check, first, after, outputLength, noSuchChoice}
+use Rattle.mesh.specs.Filling.{tabulate, run}
+use Rattle.mesh.specs.Conditions.{Accepted}
+use Rattle.mesh.specs.Mesh.{Mesh, ntri, triangleNodes, meshChecks, maxNodes, maxPanels}
+
+-- point k of a rule on a triangle, and its weight
+unfoldable pub quadraturePoint : QuadratureKind → Tri → ℕ → Vec
+quadraturePoint kind t k = mapPoint t (at (quadratureRow kind k) 1) (at (quadratureRow kind k) 2)
+
+unfoldable pub quadratureWeight : QuadratureKind → Tri → ℕ → Float
+quadratureWeight kind t k = at (quadratureRow kind k) 0 ⊗ area t
+
+-- number j of an output belongs to point j % count of panel j / count
+unfoldable pub meshPoints : QuadratureKind → Mesh → ℕ → List Float
+meshPoints kind m c =
+    tabulate (ntri m * quadratureCount kind) (λ j. at (quadraturePoint kind (triangleNodes m (j / quadratureCount kind)) (j % quadratureCount kind)) c)
+
+unfoldable pub meshWeights : QuadratureKind → Mesh → List Float
+meshWeights kind m = tabulate (ntri m * quadratureCount kind) (λ j. quadratureWeight kind (triangleNodes m (j / quadratureCount kind)) (j % quadratureCount kind))
+
+-- ---- the call
+-- 6: an output that has not one number a point
+unfoldable pub pointOutputsDiffer : ℕ → ℕ → ℕ → ℕ → ℕ → Bool
+pointOutputsDiffer n a b c d = not (eqb a n) || (not (eqb b n) || (not (eqb c n) || not (eqb d n)))
+
+-- the check after the mesh's, for p panels
+abbrev pub pointChecks : QuadratureKind → ℕ → ℕ → ℕ → ℕ → ℕ → List Check
+pointChecks kind p lx ly lz lw = check outputLength (pointOutputsDiffer (p * quadratureCount kind) lx ly lz lw) ∷ []
+
+-- the number under a rule, and by the rule's number
+unfoldable pub pointsRefusal : QuadratureKind → Mesh → ℕ → ℕ → ℕ → ℕ → ℕ
+pointsRefusal kind m lx ly lz lw = first (meshChecks maxNodes maxPanels m ++ pointChecks kind (ntri m) lx ly lz lw)
+
+abbrev pub ruleRefusal : Rule → Mesh → ℕ → ℕ → ℕ → ℕ → ℕ
+ruleRefusal (Known kind) m lx ly lz lw = pointsRefusal kind m lx ly lz lw
+ruleRefusal Unknown m lx ly lz lw = noSuchChoice
+
+-- what is due under a rule; with no such rule nothing is written
+abbrev pub pointsDue : Rule → Mesh → ℕ → List Float
+pointsDue (Known kind) m c = meshPoints kind m c
+pointsDue Unknown m c = []
+
+abbrev pub weightsDue : Rule → Mesh → List Float
+weightsDue (Known kind) m = meshWeights kind m
+weightsDue Unknown m = []
+
+-- four columns with a point and a weight at index i
+pub record StoredPoint (px py pz pw : List Float) (i : ℕ) (v : Vec) (weight : Float) (px' py' pz' pw' : List Float) : Type 0 where
+  pub x : px' ≡ set px i (at v 0)
+  pub y : py' ≡ set py i (at v 1)
+  pub z : pz' ≡ set pz i (at v 2)
+  pub weights : pw' ≡ set pw i weight
+
+-- index i is within four columns
+pub record Within (i : ℕ) (px py pz pw : List Float) : Type 0 where
+  pub x : i ≤ length px
+  pub y : i ≤ length py
+  pub z : i ≤ length pz
+  pub weights : i ≤ length pw
+
+-- four columns with runs of c numbers from index a
+pub record Run (px py pz pw : List Float) (a c : ℕ) (f : ℕ → ℕ → Float) (w : ℕ → Float) (px' py' pz' pw' : List Float) : Type 0 where
+  pub x : px' ≡ run px a c (f 0) c
+  pub y : py' ≡ run py a c (f 1) c
+  pub z : pz' ≡ run pz a c (f 2) c
+  pub weights : pw' ≡ run pw a c w c
+
+-- columns of one number a point for a mesh that was accepted
+pub record PointsReady (kind : QuadratureKind) (m : Mesh) (px py pz pw : List Float) : Type 0 where
+  pub accepted : Accepted maxNodes maxPanels m
+  pub x : length px ≡ ntri m * quadratureCount kind
+  pub y : length py ≡ ntri m * quadratureCount kind
+  pub z : length pz ≡ ntri m * quadratureCount kind
+  pub weights : length pw ≡ ntri m * quadratureCount kind
+
+-- the four columns of an accepted mesh
+pub record Filled (kind : QuadratureKind) (m : Mesh) (px py pz pw : List Float) : Type 0 where
+  pub x : px ≡ meshPoints kind m 0
+  pub y : py ≡ meshPoints kind m 1
+  pub z : pz ≡ meshPoints kind m 2
+  pub weights : pw ≡ meshWeights kind m
+
+-- what the call answers for a rule and leaves in its four outputs
+pub record Points (rule : Rule) (m : Mesh) (px py pz pw : List Float) (r : ℕ) (px' py' pz' pw' : List Float) : Type 0 where
+  pub number : r ≡ ruleRefusal rule m (length px) (length py) (length pz) (length pw)
+  pub x : px' ≡ after r (pointsDue rule m 0) px
+  pub y : py' ≡ after r (pointsDue rule m 1) py
+  pub z : pz' ≡ after r (pointsDue rule m 2) pz
+  pub weights : pw' ≡ after r (weightsDue rule m) pw
