@@ -7,7 +7,7 @@ set -eu
 cd "$(dirname "$0")"
 file=${1:-examples/plate.pnl}
 rule=${2:-3}
-rt staticlib screens
+./archive.sh
 (cd host && cargo build -q --offline --release)
 screens=host/target/release/screens
 mkdir -p demo

@@ -5,11 +5,11 @@
 # fresh matrices and moves of whole screens, with `moves` runs of moves are compared cell by cell. With `record` it measures
 # the arithmetic, whole screens (rules 12345, 3 sizes and medians of 5 rounds if not said otherwise), stack and memory, prints the tables and
 # writes them to docs/PERFORMANCE.md between its two marks.
-set -eu
+set -eu -o pipefail
 here=$(cd "$(dirname "$0")" && pwd)
 source=$(cd "${1:?usage: run.sh SOURCE [matrix | moves | record]}" && pwd)
 "$here/../oracle/build.sh" "$source" "$here/build/original"
-(cd "$here/.." && rt staticlib screens | tail -n 1)
+"$here/../archive.sh" | tail -n 1
 export CARGO_NET_OFFLINE=true
 cd "$here/build/original"
 RUSTFLAGS="-A warnings" cargo build -q --release -p kernels --target-dir target

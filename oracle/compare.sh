@@ -4,12 +4,12 @@
 # through the Rust crate of host/screens, on cases by seed. With `soak` it goes on with one seed after another for so many
 # minutes; with `findings` it asks both what docs/DIFFERENCES.md lists. Ends with the count of cases and `0 differ`; the exit
 # status is 1 if any differ.
-set -eu
+set -eu -o pipefail
 here=$(cd "$(dirname "$0")" && pwd)
 source=$(cd "${1:?usage: compare.sh SOURCE [SEED [SCALE [KIND]] | soak MINUTES [SEED [SCALE]] | findings]}" && pwd)
 shift
 "$here/build.sh" "$source"
-(cd "$here/.." && rt staticlib screens | tail -n 1)
+"$here/../archive.sh" | tail -n 1
 (cd "$here/.." && rt check density | tail -n 1)
 export SCREENS_DENSITY=$here/../target/bin/density
 cd "$here/build"

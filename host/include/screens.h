@@ -1,6 +1,6 @@
 /* screens.h: inductance of conducting screens given as triangle panels.
  *
- * The functions of libscreens.a, which `rt staticlib screens` writes to target/staticlib. Each is proved to meet its
+ * The functions of libscreens.a, which `./archive.sh` writes to target/staticlib. Each is proved to meet its
  * contract for all inputs: it ends, reads and writes only what it is lent, and answers what docs/PROMISES.md says.
  *
  *   cc -std=c99 program.c -Ihost/include target/staticlib/libscreens.a -o program

@@ -23,7 +23,7 @@ fn main() -> ExitCode {
     }
     if !archive.is_file() {
         println!(
-            "cargo::error=there is no {}: make it with `rt staticlib screens` in the repository's folder, or name the folder that has libscreens.a by the environment variable SCREENS_LIB",
+            "cargo::error=there is no {}: make it with `./archive.sh` in the repository's folder, or name the folder that has libscreens.a by the environment variable SCREENS_LIB",
             archive.display()
         );
         return ExitCode::FAILURE;

@@ -17,8 +17,8 @@ use Rattle.tri.specs.declared.quadrature.QuadratureKind.the-variants.{Dunavant5
 use Rattle.potential.specs.declared.UniformTriangle.{UniformTriangle}
 use Rattle.potential.specs.Potential.{uniformTriangle, scalarPotential}
 use Rattle.boundary_element.specs.Identity.{trianglesIdentical}
-use Rattle.coupling.specs.Distance.{triangleDistanceSquared, triangleAabbDistanceSquared, triangleMaxEdgeSquared}
-use Rattle.coupling.specs.Bisection.{longestEdgeBisection}
+use Rattle.panel_distance.specs.Distance.{triangleDistanceSquared, triangleAabbDistanceSquared, triangleMaxEdgeSquared}
+use Rattle.panel_distance.specs.Bisection.{longestEdgeBisection}
 
 -- ---- sums over a rule's rows
 -- f of each of the first k rows, added in their order to +0

@@ -1,5 +1,3 @@
-pub mod Distance
-pub mod Bisection
 pub mod Coupling
 pub mod Block
 pub mod Calls

@@ -1,8 +1,8 @@
 // The geometric coupling of two triangles, the double surface integral of 1/distance, by the far or the near rule.
-use crate::bisection::longest_edge_bisection;
-use crate::distance::triangle_aabb_distance_squared;
-use crate::distance::triangle_distance_squared;
-use crate::distance::triangle_max_edge_squared;
+use panel_distance::bisection::longest_edge_bisection;
+use panel_distance::distance::triangle_aabb_distance_squared;
+use panel_distance::distance::triangle_distance_squared;
+use panel_distance::distance::triangle_max_edge_squared;
 use panel_points::nine;
 use panel_points::points_by;
 use panel_points::rows_of;

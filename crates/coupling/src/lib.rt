@@ -1,6 +1,4 @@
 // inductance.rs: coupling of two triangles, the three by three block and its entries.
-pub mod bisection;
 pub mod block;
 pub mod calls;
 pub mod coupling;
-pub mod distance;

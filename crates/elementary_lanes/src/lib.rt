@@ -20,18 +20,12 @@ use elementary::atan_at;
 use elementary::atan2;
 use elementary::supplement;
 use elementary::twice_artanh;
+use ieee754::select;
 
 // The smallest normal number.
 const MIN_POSITIVE: f64 = 2.2250738585072014e-308;
 
 const TWO_TO_1023: f64 = 8.98846567431158e307;
-
-// Both values are at hand: a lane has no branch.
-fn select(c: bool, a: f64, b: f64) -> f64
-    ensures { λ r. ⌜ r ≡ cond c a b ⌝ }
-{
-    if c { a } else { b }
-}
 
 // |x|, for x other than zero and NaN.
 fn magnitude(x: f64) -> f64

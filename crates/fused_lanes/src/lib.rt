@@ -1,12 +1,14 @@
 // x * x + z rounded once, by float operations without a branch: a loop over arrays is laid out in lanes. The rounded sum
 // s of the rounded square and z, and what both roundings left off, v, are nearly the exact sum; where s + v is
 // rounded alike with a margin below and above, it is the answer.
-ghost use mathlib.Core.Bool.{cond, false, _&&_};
+ghost use mathlib.Core.Bool.{false};
 ghost use mathlib.Core.Path.{_≡_};
 ghost use Prim.Native.Nat.{_≤_};
-ghost use lib.Ieee.{isNan, nan};
+ghost use lib.Ieee.{isNan};
 ghost use Rattle.fused_integer.specs.Fma.{fma};
 ghost use Rattle.fused_lanes.specs.Lanes as Spec;
+use ieee754::not_a_number;
+use ieee754::select;
 
 const TWO_TO_MINUS_400: f64 = 3.8725919148493183e-121;
 
@@ -17,20 +19,6 @@ const TWO_TO_MINUS_70: f64 = 8.470329472543003e-22;
 const TWO_TO_200: f64 = 1.6069380442589903e60;
 
 const TWO_TO_400: f64 = 2.5822498780869086e120;
-
-// Both values are at hand: a lane has no branch.
-fn select(c: bool, a: f64, b: f64) -> f64
-    ensures { λ r. ⌜ r ≡ cond c a b ⌝ }
-{
-    if c { a } else { b }
-}
-
-// No constant may be a NaN.
-fn not_a_number() -> f64
-    ensures { λ r. ⌜ r ≡ nan ⌝ }
-{
-    0.0 / 0.0
-}
 
 // x, or 0 for a NaN, which has no pattern.
 fn number(x: f64) -> f64

@@ -1,7 +1,7 @@
 // IEEE 754's operations on f64 that the language lacks, each for every input.
 ghost use mathlib.Core.Path.{_≡_};
 ghost use lib.Ieee.{nan, inf, isNan};
-ghost use mathlib.Core.Bool.{false};
+ghost use mathlib.Core.Bool.{false, cond};
 ghost use Rattle.ieee754.specs.Ieee754 as Spec;
 
 // a * b + c, rounded once: the Rust's a.mul_add(b, c).
@@ -35,6 +35,13 @@ pub fn not_a_number() -> f64
     ensures { λ r. ⌜ r ≡ nan ⌝ }
 {
     0.0 / 0.0
+}
+
+// Both values are at hand: in a loop over arrays this is no branch.
+pub fn select(c: bool, a: f64, b: f64) -> f64
+    ensures { λ r. ⌜ r ≡ cond c a b ⌝ }
+{
+    if c { a } else { b }
 }
 
 pub fn is_nan(x: f64) -> bool

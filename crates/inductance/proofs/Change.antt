@@ -15,7 +15,8 @@ use Rattle.scatter.specs.Entries.{same, blockEntries, contributions, cellSum, s
 use Rattle.scatter.specs.Renewal.{renewed}
 use Rattle.scatter.proofs.Misses.{contributions-append, source-misses, target-misses, both-miss}
 use Rattle.scatter.proofs.Renewals.{renewed-from}
-use Rattle.inductance.specs.Matrix.{Block, pairEntries, targetEntries, sourceEntries, entries, cell, matrix}
+use Rattle.pair_nest.specs.Additions.{Block, pairEntries, targetEntries, sourceEntries, entries}
+use Rattle.inductance.specs.Matrix.{cell, matrix}
 use Rattle.inductance.specs.Change.{Changed, Apart}
 
 -- a pair adds nothing to (a, b) if one of its panels holds neither a nor b

@@ -1,8 +1,6 @@
 pub mod Within
-pub mod Nest
+pub mod Renewing
 pub mod Ready
-pub mod Scan
-pub mod Keeping
 pub mod Rules
 pub mod Numbers
 pub mod Change

@@ -1,44 +1,23 @@
--- What the assembly's functions ask of a mesh and a matrix: kept by a matrix of the same length, and met by a call that is done.
+-- A call that is done meets what the assembly's functions ask, and with every node marked the renewed matrix is the fresh one.
 use mathlib.Core.Path.{_≡_, refl, sym, _∙_, subst}
 use mathlib.Core.Bool.{Bool, true, false}
 use mathlib.Core.List.{List}
 use Prim.Native.Nat.{ℕ, _*_, _≤_}
-use native.Mathlib.Nat.{lt-of-lt-of-le, mul-le-mul}
+use native.Mathlib.Nat.{lt-of-lt-of-le}
 use borrow.Author.Tests.{eqb-true, not-false}
 use lib.ListN.{length, replicate, length-replicate, getD-replicate}
 use lib.Ieee.{Float}
 use Rattle.tri.specs.declared.quadrature.QuadratureKind.{QuadratureKind}
 use Rattle.mesh.specs.Refusal.{after-done}
-use Rattle.mesh.specs.Counting.{three}
-use Rattle.mesh.specs.Mesh.{Mesh, nnode, triangleIndices, meshRefusal, maxNodes, maxPanels}
-use Rattle.mesh.specs.Conditions.{Below}
-use Rattle.mesh.proofs.Refusals.{numbered, mesh-accepted}
+use Rattle.mesh.specs.Mesh.{Mesh, nnode, maxNodes, maxPanels}
+use Rattle.mesh.proofs.Refusals.{mesh-accepted}
 use Rattle.scatter.specs.Entries.{square}
-use Rattle.scatter.specs.Renewal.{marked, renewed, AllBelow}
+use Rattle.scatter.specs.Renewal.{marked, renewed}
 use Rattle.scatter.proofs.Renewals.{renewed-whole}
 use Rattle.coupling.specs.Block.{mutualInductanceBlock}
+use Rattle.pair_nest.specs.Ready.{Ready}
 use Rattle.inductance.specs.Matrix.{cell, matrix}
-use Rattle.inductance.specs.Assembly.{Ready, AssembledUnder, sizeChecks, sizedRefusal}
-
-pub ready-now : (m : Mesh) (old out : List Float) (marks : List Bool) → Ready m old marks → length out ≡ length old → Ready m out marks
-ready-now m old out marks w e = record {
-  nodes-alike = w .nodes-alike;
-  panels-alike = w .panels-alike;
-  few-panels = w .few-panels;
-  none-missing = w .none-missing;
-  sized = record { small = w .sized .small; cells = e ∙ w .sized .cells; enough = w .sized .enough };
-}
-
--- the nodes of a panel, read into an array, are below k where the node count is
-pub panel-below : (m : Mesh) (i k : ℕ) (s : List ℕ) → Below m i → nnode m ≤ k → s ≡ triangleIndices m i → AllBelow k (three s)
-panel-below m i k s b h e =
-    subst (λ (t : List ℕ). AllBelow k (three t)) (sym e) (lt-of-lt-of-le (b .below0) h, (lt-of-lt-of-le (b .below1) h, (lt-of-lt-of-le (b .below2) h, tt)))
-
--- an accepted mesh has few nodes, and a matrix of them has few cells
-pub few-cells : (m : Mesh) (r : ℕ) → r ≡ meshRefusal maxNodes maxPanels m → r ≡ 0 → nnode m * nnode m ≤ maxNodes * maxNodes
-few-cells m r e z =
-    let few = numbered maxNodes maxPanels m .is-0 .0 (sym e ∙ z) .limits .few-nodes in
-    mul-le-mul few few
+use Rattle.inductance.specs.Assembly.{AssembledUnder, sizeChecks, sizedRefusal}
 
 -- every node is marked
 abbrev pub allMarks : List Bool

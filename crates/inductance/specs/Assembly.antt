@@ -3,7 +3,7 @@ use mathlib.Core.Path.{_≡_}
 use mathlib.Core.Logic.{_↔_}
 use mathlib.Core.Bool.{Bool, true, false, not}
 use mathlib.Core.List.{List, [], _∷_, _++_}
-use Prim.Native.Nat.{ℕ, _*_, _<_, _≤_}
+use Prim.Native.Nat.{ℕ, _*_}
 use lib.Dec.{eqb}
 use lib.ListN.{length}
 use lib.Ieee.{Float}
@@ -12,14 +12,12 @@ use Rattle.tri.specs.declared.quadrature.QuadratureKind.{QuadratureKind}
 use Rattle.tri.specs.declared.quadrature.Rule.{Rule}
 use Rattle.tri.specs.declared.quadrature.Rule.the-variants.{Known, Unknown}
 use Rattle.mesh.specs.Refusal.{Check, check, first, after, noSuchChoice, outputLength}
-use Rattle.mesh.specs.Counting.{anyOf}
-use Rattle.mesh.specs.Mesh.{Mesh, nnode, ntri, triangleIndices, meshChecks, meshRefusal, maxNodes, maxPanels}
-use Rattle.mesh.specs.Conditions.{NodeColumnsAlike, PanelColumnsAlike, NoneMissing, Accepted}
+use Rattle.mesh.specs.Mesh.{Mesh, nnode, meshChecks, meshRefusal, maxNodes, maxPanels}
+use Rattle.mesh.specs.Conditions.{Accepted}
 use Rattle.coupling.specs.Block.{mutualInductanceBlock}
 use Rattle.coupling.specs.Calls.{NoSuchRule}
-use Rattle.scatter.specs.Renewal.{Sized, AllBelow, marked}
-use Rattle.scatter.specs.Links.{Linked}
-use Rattle.inductance.specs.Matrix.{Block, matrix}
+use Rattle.pair_nest.specs.Additions.{Block}
+use Rattle.inductance.specs.Matrix.{matrix}
 
 -- 12
 abbrev pub isUnknown : Rule → Bool
@@ -58,26 +56,3 @@ pub record Assembled (number : ℕ) (m : Mesh) (out : List Float) (r : ℕ) (out
 pub record AssembledUnder (kind : QuadratureKind) (m : Mesh) (out : List Float) (r : ℕ) (out' : List Float) : Type 0 where
   pub refusal : r ≡ sizedRefusal m (length out)
   pub cells : out' ≡ after r (matrix (mutualInductanceBlock kind) m) out
-
--- what the assembly's own functions ask: columns of one length, not too many panels, every index below the node count, a matrix of the nodes and a mark for each
-pub record Ready (m : Mesh) (out : List Float) (marks : List Bool) : Type 0 where
-  pub nodes-alike : NodeColumnsAlike m
-  pub panels-alike : PanelColumnsAlike m
-  pub few-panels : ntri m ≤ maxPanels
-  pub none-missing : NoneMissing m
-  pub sized : Sized (nnode m) out marks
-
--- every index of every panel is below k
-abbrev pub IndicesBelow : ℕ → Mesh → Type 0
-IndicesBelow k m = (i : ℕ) → i < ntri m → AllBelow k (triangleIndices m i)
-
--- a flag for each of the first k panels: whether one of its nodes is marked
-abbrev pub Flagged : ℕ → Mesh → List Bool → List Bool → Type 0
-Flagged k m marks flags = (i : ℕ) → i < k → marked flags i ≡ anyOf (marked marks) (triangleIndices m i)
-
--- what the loops over pairs ask besides: the flags, and from each panel the next that is flagged
-pub record Scanned (m : Mesh) (marks flags : List Bool) (links : List ℕ) : Type 0 where
-  pub flags-long : ntri m ≤ length flags
-  pub links-long : ntri m ≤ length links
-  pub flagged : Flagged (ntri m) m marks flags
-  pub linked : Linked 0 (marked flags) (ntri m) links

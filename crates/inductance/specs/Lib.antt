@@ -1,4 +1,3 @@
 pub mod Matrix
 pub mod Assembly
 pub mod Change
-pub mod Kept

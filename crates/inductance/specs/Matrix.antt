@@ -1,35 +1,10 @@
--- inductance.rs, `triangle_mesh_inductance_matrix`: every addition in program order, and the matrix of the cells' sums. The block is a parameter: a function of the corners of the
--- source and the target panel and nothing else. Definitions only.
-use mathlib.Core.List.{List, [], _++_}
-use Prim.Native.Nat.{ℕ, zero, suc, _-_}
-use lib.Dec.{eqb}
+-- inductance.rs, `triangle_mesh_inductance_matrix`: the matrix of the cells' sums, over the additions in program order. Definitions only.
+use mathlib.Core.List.{List}
+use Prim.Native.Nat.{ℕ}
 use lib.Ieee.{Float}
-use Rattle.tri.specs.Mapping.{Tri}
-use Rattle.mesh.specs.Mesh.{Mesh, nnode, ntri, triangleIndices, triangleNodes}
-use Rattle.scatter.specs.Entries.{Entry, blockEntries, withTransposed, contributions, cellSum, square}
-
--- nine numbers row by row, of the source's corners and the target's
-abbrev pub Block : Type 0
-Block = Tri → Tri → List Float
-
--- panels i and j: the block and, for two panels, the same additions transposed
-unfoldable pub pairEntries : Block → Mesh → ℕ → ℕ → List Entry
-pairEntries block m i j =
-    withTransposed (eqb i j) (blockEntries (triangleIndices m i) (triangleIndices m j) (block (triangleNodes m i) (triangleNodes m j)) 0)
-
--- source i against the c targets from j up
-unfoldable pub targetEntries : Block → Mesh → ℕ → ℕ → ℕ → List Entry
-targetEntries block m i j zero = []
-targetEntries block m i j (suc c) = pairEntries block m i j ++ targetEntries block m i (suc j) c
-
--- the c sources from i up, each against the targets from itself up
-unfoldable pub sourceEntries : Block → Mesh → ℕ → ℕ → List Entry
-sourceEntries block m i zero = []
-sourceEntries block m i (suc c) = targetEntries block m i i (ntri m - i) ++ sourceEntries block m (suc i) c
-
--- every addition of the assembly, in order
-abbrev pub entries : Block → Mesh → List Entry
-entries block m = sourceEntries block m 0 (ntri m)
+use Rattle.mesh.specs.Mesh.{Mesh, nnode}
+use Rattle.scatter.specs.Entries.{contributions, cellSum, square}
+use Rattle.pair_nest.specs.Additions.{Block, entries}
 
 -- +0, and the values that go to the cell (a, b), added one after the other
 unfoldable pub cell : Block → Mesh → ℕ → ℕ → Float

@@ -6,28 +6,17 @@ use mathlib.Core.List.{List, [], _∷_, _++_}
 use lib.Dec.{eqb}
 use lib.ListN.{length, getD}
 use lib.Ieee.{Float}
-use Rattle.binary64.specs.Binary64.{at}
 use Rattle.mesh.specs.Refusal.{after, outputLength}
-use Rattle.mesh.specs.Filling.{tabulate}
 use Rattle.potential.specs.declared.UniformTriangle.{UniformTriangle}
-
--- three vectors, one after the other
-unfoldable pub rowsOf : List (List Float) → List Float
-rowsOf b = tabulate 3 (at (getD b 0 [])) ++ tabulate 3 (at (getD b 1 [])) ++ tabulate 3 (at (getD b 2 []))
+use Rattle.panel_points.specs.Points.{coordinates}
 
 -- two triangles, one after the other
 unfoldable pub halvesOf : List (List (List Float)) → List Float
-halvesOf h = rowsOf (getD h 0 []) ++ rowsOf (getD h 1 [])
+halvesOf h = coordinates (getD h 0 []) ++ coordinates (getD h 1 [])
 
--- corners, normal, edge tangents, outward edges, edge lengths, longest edge
+-- corners (nine numbers), normal (three), edge tangents and outward edges (nine each), edge lengths (three), longest edge
 unfoldable pub recordNumbers : UniformTriangle → List Float
-recordNumbers p =
-    tabulate 9 (at (p .nodes))
-    ++ tabulate 3 (at (p .normal))
-    ++ tabulate 9 (at (p .«edge_tangent»))
-    ++ tabulate 9 (at (p .«edge_outward»))
-    ++ tabulate 3 (at (p .«edge_length»))
-    ++ (p .«max_edge» ∷ [])
+recordNumbers p = p .nodes ++ p .normal ++ p .«edge_tangent» ++ p .«edge_outward» ++ p .«edge_length» ++ (p .«max_edge» ∷ [])
 
 -- number 6, output, where the length is not the one due
 unfoldable pub outputRefusal : ℕ → ℕ → ℕ

@@ -1,9 +1,24 @@
 // What the C interface hands back: vectors, triangles and a panel's record as single numbers, written to a lent buffer of their
 // count; any other length is 6, and the buffer stays as it was.
+use panel_points::nine;
 use potential::UniformTriangle;
 ghost use mathlib.Core.Path.{_≡_};
+ghost use Prim.Native.Nat.{_+_, _≤_};
 ghost use lib.ListN.{length};
-ghost use Rattle.lent_numbers.specs.Numbers.{rowsOf, halvesOf, recordNumbers, Wrote};
+ghost use lib.Seq.{paste};
+ghost use Rattle.lent_numbers.specs.Numbers.{halvesOf, recordNumbers, Wrote};
+
+// Puts v into out from `from` on.
+fn put(v: &[f64], from: usize, out: &mut [f64])
+    requires { ⌜ from + length (now v) ≤ length (now out) ⌝ }
+    ensures { λ _. ⌜ now (out .exit) ≡ paste (now (out .entry)) from (now (v .entry)) (length (now (v .entry))) ⌝ }
+{
+    let mut i = 0;
+    while i < v.len() {
+        out[from + i] = v[i];
+        i += 1;
+    }
+}
 
 pub fn write(v: &[f64], out: &mut [f64]) -> u32
     ensures { λ r. ⌜ Wrote (length (now (v .entry))) (now (v .entry)) (now (out .entry)) r (now (out .exit)) ⌝ }
@@ -11,11 +26,7 @@ pub fn write(v: &[f64], out: &mut [f64]) -> u32
     if out.len() != v.len() {
         return mesh::OUTPUT_LENGTH;
     }
-    let mut i = 0;
-    while i < v.len() {
-        out[i] = v[i];
-        i += 1;
-    }
+    put(v, 0, out);
     0
 }
 
@@ -47,64 +58,20 @@ pub fn write34(v: [f64; 34], out: &mut [f64]) -> u32
 pub fn record_numbers(p: UniformTriangle) -> [f64; 34]
     ensures { λ r. ⌜ r ≡ recordNumbers p ⌝ }
 {
-    let t = p.nodes;
-    let n = p.normal;
-    let g = p.edge_tangent;
-    let o = p.edge_outward;
-    let l = p.edge_length;
-    [
-        t[0],
-        t[1],
-        t[2],
-        t[3],
-        t[4],
-        t[5],
-        t[6],
-        t[7],
-        t[8],
-        n[0],
-        n[1],
-        n[2],
-        g[0],
-        g[1],
-        g[2],
-        g[3],
-        g[4],
-        g[5],
-        g[6],
-        g[7],
-        g[8],
-        o[0],
-        o[1],
-        o[2],
-        o[3],
-        o[4],
-        o[5],
-        o[6],
-        o[7],
-        o[8],
-        l[0],
-        l[1],
-        l[2],
-        p.max_edge,
-    ]
-}
-
-// Three vectors as nine numbers.
-pub fn nine(b: [[f64; 3]; 3]) -> [f64; 9]
-    ensures { λ r. ⌜ r ≡ rowsOf b ⌝ }
-{
-    [
-        b[0][0],
-        b[0][1],
-        b[0][2],
-        b[1][0],
-        b[1][1],
-        b[1][2],
-        b[2][0],
-        b[2][1],
-        b[2][2],
-    ]
+    let nodes = p.nodes;
+    let normal = p.normal;
+    let tangent = p.edge_tangent;
+    let outward = p.edge_outward;
+    let length = p.edge_length;
+    let max = [p.max_edge];
+    let mut out = [0.0; 34];
+    put(&nodes, 0, &mut out);
+    put(&normal, 9, &mut out);
+    put(&tangent, 12, &mut out);
+    put(&outward, 21, &mut out);
+    put(&length, 30, &mut out);
+    put(&max, 33, &mut out);
+    out
 }
 
 // Two triangles as eighteen numbers.
@@ -113,24 +80,8 @@ pub fn eighteen(h: [[[f64; 3]; 3]; 2]) -> [f64; 18]
 {
     let a = nine(h[0]);
     let b = nine(h[1]);
-    [
-        a[0],
-        a[1],
-        a[2],
-        a[3],
-        a[4],
-        a[5],
-        a[6],
-        a[7],
-        a[8],
-        b[0],
-        b[1],
-        b[2],
-        b[3],
-        b[4],
-        b[5],
-        b[6],
-        b[7],
-        b[8],
-    ]
+    let mut out = [0.0; 18];
+    put(&a, 0, &mut out);
+    put(&b, 9, &mut out);
+    out
 }

@@ -13,7 +13,7 @@ use lib.Ieee.Positive.{first-pos}
 use Rattle.ieee754.specs.Ieee754.{min}
 use Rattle.math.specs.Math.{Vec}
 use Rattle.tri.specs.Mapping.{Tri, corner}
-use Rattle.coupling.specs.Distance.{leastOfCorners, leastOfEdges, triangleDistanceSquared}
+use Rattle.panel_distance.specs.Distance.{leastOfCorners, leastOfEdges, triangleDistanceSquared}
 use Rattle.nearness.specs.Which.{until, cornersUntil, edgesUntil, edgesBeyond, beyond}
 
 -- ---- the order

@@ -6,7 +6,7 @@ use Rattle.ieee754.specs.Ieee754.{min, max}
 use Rattle.math.specs.Math.{Vec}
 use Rattle.tri.specs.Mapping.{Tri, corner}
 use Rattle.boundary_element.specs.Identity.{trianglesIdentical}
-use Rattle.coupling.specs.Distance.{pointTriangleDistanceSquared, segmentDistanceSquared}
+use Rattle.panel_distance.specs.Distance.{pointTriangleDistanceSquared, segmentDistanceSquared}
 
 -- how far two boxes are apart along one axis
 unfoldable pub gapBetween : Float → Float → Float → Float → Float

@@ -1,7 +1,7 @@
 // Whether two panels are far from each other, the cheap tests first.
 use boundary_element::identity::triangles_identical;
-use coupling::distance::point_triangle_distance_squared;
-use coupling::distance::segment_distance_squared;
+use panel_distance::distance::point_triangle_distance_squared;
+use panel_distance::distance::segment_distance_squared;
 ghost use mathlib.Core.Path.{_≡_};
 ghost use Rattle.boundary_element.specs.Identity.{trianglesIdentical};
 ghost use Rattle.nearness.specs.Which as Spec;

@@ -10,18 +10,19 @@ use lib.Ieee.{Float}
 use borrow.Author.Tests.{eqb-false}
 use Rattle.mesh.specs.Counting.{countBelow, none-at, count-alike}
 use Rattle.mesh.specs.Mesh.{Mesh, node, nnode, ntri, maxNodes}
-use Rattle.scatter.specs.Entries.{contributions, cellSum, square}
+use Rattle.scatter.specs.Entries.{same, contributions, cellSum, square}
 use Rattle.scatter.specs.Renewal.{marked, renewed}
 use Rattle.scatter.proofs.Renewals.{renewed-same}
-use Rattle.inductance.specs.Matrix.{Block, entries, cell, matrix}
-use Rattle.inductance.specs.Assembly.{Ready, IndicesBelow}
-use Rattle.scatter.specs.Entries.{same}
+use Rattle.scatter.specs.Flags.{IndicesBelow}
+use Rattle.pair_nest.specs.Additions.{Block, entries}
+use Rattle.pair_nest.specs.Ready.{Ready}
+use Rattle.inductance.specs.Matrix.{cell, matrix}
 use Rattle.inductance.specs.Change.{Changed, Apart}
 use Rattle.inductance.proofs.Change.{renewed-by}
+use Rattle.node_ring.proofs.Marks.{none-marked}
+use Rattle.node_ring.proofs.Count.{named-count}
+use Rattle.node_ring.proofs.Overlay.{elsewhere}
 use Rattle.node_move.specs.Move.{moved, joins, ring, Done, MoveReady}
-use Rattle.node_move.proofs.Marks.{none-marked}
-use Rattle.node_move.proofs.Count.{named-count}
-use Rattle.node_move.proofs.Overlay.{elsewhere}
 
 pub outside : (m : Mesh) (changed : ℕ → Bool) (a : ℕ) → ring m changed a ≡ false → Apart m changed a
 outside m changed a h p l t = let g = none-at (joins m changed a) (ntri m) p h l in rw t at g

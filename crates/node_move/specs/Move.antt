@@ -1,53 +1,20 @@
--- The move of one node: the moved mesh, the ring of the node, the named cells and their count, the numbers in order, and the claim of the call. Definitions only.
+-- The move of one node: the numbers in order and the claim of the call. The moved mesh, the ring of the node and the named cells are those of node_ring, passed on. Definitions only.
 use mathlib.Core.Path.{_≡_}
-use mathlib.Core.Bool.{Bool, not, _&&_}
-use mathlib.Core.List.{List, [], _∷_, _++_}
-use Prim.Native.Nat.{ℕ, zero, suc, _+_, _*_, _<_, _≤_}
-use lib.Dec.{eqb, leb}
-use lib.ListN.{length, set}
+use mathlib.Core.List.{List, _∷_, _++_}
+use Prim.Native.Nat.{ℕ, _*_, _<_, _≤_}
+use lib.ListN.{length}
 use lib.Ieee.{Float}
 use Rattle.tri.specs.declared.quadrature.Rule.{Rule}
-use Rattle.mesh.specs.Refusal.{Check, check, first, noSuchChoice, outputLength, noSuchNode, zeroArea}
-use Rattle.mesh.specs.Counting.{anyOf, someBelow, countBelow}
-use Rattle.mesh.specs.Mesh.{Mesh, meshOf, nnode, ntri, triangleIndices, someZeroArea, meshChecks, maxNodes, maxPanels}
+use Rattle.mesh.specs.Refusal.{check, first, noSuchChoice}
+use Rattle.mesh.specs.Mesh.{Mesh, nnode, ntri, meshChecks, maxNodes, maxPanels}
 use Rattle.mesh.specs.Conditions.{NodeColumnsAlike, PanelColumnsAlike, NoneMissing}
-use Rattle.scatter.specs.Renewal.{named, renewed}
-use Rattle.inductance.specs.Assembly.{isUnknown}
 use Rattle.scatter.specs.Entries.{same}
-
--- Document 01's "moved mesh": the place (x, y, z) at node v, everything else as it was
-abbrev pub moved : Mesh → ℕ → Float → Float → Float → Mesh
-moved m v x y z = meshOf (set (m .xs) v x) (set (m .ys) v y) (set (m .zs) v z) (m .t0) (m .t1) (m .t2)
-
--- panel p holds a changed node and the node a
-abbrev pub joins : Mesh → (ℕ → Bool) → ℕ → ℕ → Bool
-joins m changed a p = anyOf changed (triangleIndices m p) && anyOf (same a) (triangleIndices m p)
-
--- Document 01's "ring": the nodes of every panel that holds a changed node; empty if none does
-abbrev pub ring : Mesh → (ℕ → Bool) → ℕ → Bool
-ring m changed a = someBelow (joins m changed a) (ntri m)
-
--- how many of the cells (a, b) with a below c and b below n pass the test, counted one by one
-unfoldable pub countRows : (ℕ → ℕ → Bool) → ℕ → ℕ → ℕ
-countRows t n zero = 0
-countRows t n (suc c) = countRows t n c + countBelow (t c) n
-
--- how many of the n × n cells are named by the set r
-abbrev pub namedCount : (ℕ → Bool) → ℕ → ℕ
-namedCount r n = countRows (named r) n n
-
--- ---- the number
--- after the mesh's checks: 6, 13, and 4 on the moved mesh
-abbrev pub placeChecks : Mesh → ℕ → ℕ → Float → Float → Float → List Check
-placeChecks m size v x y z =
-    check outputLength (not (eqb size (nnode m * nnode m)))
-    ∷ check noSuchNode (leb (nnode m) v)
-    ∷ check zeroArea (someZeroArea (moved m v x y z))
-    ∷ []
-
--- under a rule that there is
-unfoldable pub placeRefusal : Mesh → ℕ → ℕ → Float → Float → Float → ℕ
-placeRefusal m size v x y z = first (meshChecks maxNodes maxPanels m ++ placeChecks m size v x y z)
+use Rattle.scatter.specs.Renewal.{renewed}
+use Rattle.inductance.specs.Assembly.{isUnknown}
+pub use Rattle.node_ring.specs.Place.{moved, placeChecks}
+unfoldable pub use Rattle.node_ring.specs.Place.{placeRefusal}
+pub use Rattle.node_ring.specs.Ring.{joins, ring, namedCount}
+unfoldable pub use Rattle.node_ring.specs.Ring.{countRows}
 
 -- 12, 1, 2, 11, 3, 4, 6, 13, 4 on the moved mesh
 unfoldable pub moveRefusal : Rule → Mesh → ℕ → ℕ → Float → Float → Float → ℕ

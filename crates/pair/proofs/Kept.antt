@@ -9,7 +9,7 @@ use Rattle.tri.specs.declared.quadrature.QuadratureKind.{QuadratureKind}
 use Rattle.potential.specs.Potential.{uniformTriangle}
 use Rattle.boundary_element.specs.CurrentDensity.{basisCurrentDensity, triangleBasisCurrentDensities}
 use Rattle.boundary_element.specs.Identity.{trianglesIdentical}
-use Rattle.coupling.specs.Distance.{lowest, highest, gap, triangleDistanceSquared, triangleAabbDistanceSquared, triangleMaxEdgeSquared}
+use Rattle.panel_distance.specs.Distance.{lowest, highest, gap, triangleDistanceSquared, triangleAabbDistanceSquared, triangleMaxEdgeSquared}
 use Rattle.coupling.specs.Coupling.{isFar}
 use Rattle.pair.specs.declared.Panel.{Panel}
 use Rattle.pair.specs.declared.Source.{Source}

@@ -12,7 +12,7 @@ use Rattle.mesh.specs.Mesh.{Mesh, triangleNodes}
 use Rattle.potential.specs.Potential.{uniformTriangle}
 use Rattle.potential.specs.declared.UniformTriangle.{UniformTriangle}
 use Rattle.boundary_element.specs.CurrentDensity.{basisCurrentDensity, triangleBasisCurrentDensities}
-use Rattle.coupling.specs.Distance.{distanceSquared, lowest, highest, triangleMaxEdgeSquared}
+use Rattle.panel_distance.specs.Distance.{distanceSquared, lowest, highest, triangleMaxEdgeSquared}
 use Rattle.panel_points.specs.Points.{coordinates, triangle, rowsOf, pointsOf}
 use Rattle.pair.specs.declared.Panel.{Panel}
 use Rattle.pair.specs.declared.Source.{Source}

@@ -2,9 +2,9 @@
 use boundary_element::current_density::triangle_basis_current_densities;
 use coupling::block::block_from_coupling;
 use coupling::coupling::triangle_geometric_coupling_exact_fixed;
-use coupling::distance::highest;
-use coupling::distance::lowest;
-use coupling::distance::triangle_max_edge_squared;
+use panel_distance::distance::highest;
+use panel_distance::distance::lowest;
+use panel_distance::distance::triangle_max_edge_squared;
 use panel_points::Points;
 use panel_points::Rows;
 use panel_points::nine;

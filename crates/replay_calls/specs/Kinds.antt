@@ -15,9 +15,9 @@ use Rattle.mesh.specs.Mesh as Mesh
 use Rattle.potential.specs.Potential as Potential
 use Rattle.boundary_element.specs.CurrentDensity as Density
 use Rattle.boundary_element.specs.Identity as Identity
-use Rattle.coupling.specs.Distance as Distance
+use Rattle.panel_distance.specs.Distance as Distance
 use Rattle.coupling.specs.Coupling as Coupling
-use Rattle.coupling.specs.Bisection as Bisection
+use Rattle.panel_distance.specs.Bisection as Bisection
 use Rattle.coupling.specs.Block as Block
 use Rattle.coupling.specs.Calls as Calls
 use Rattle.coupling.specs.declared.calls.Answer.{Answer}

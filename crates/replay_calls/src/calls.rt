@@ -65,7 +65,7 @@ pub fn mutual_inductance(f: &[f64; 512], w: &[u64; 512]) -> bool
 pub fn bisect(f: &[f64; 512], w: &[u64; 512]) -> bool
     ensures { λ r. ⌜ r ≡ Spec.bisect (now (f .entry)) (now (w .entry)) ⌝ }
 {
-    let h = coupling::bisection::longest_edge_bisection(triangle(f, 0));
+    let h = panel_distance::bisection::longest_edge_bisection(triangle(f, 0));
     let a = same_triangle(h[0], w, 9);
     let b = same_triangle(h[1], w, 18);
     (a) & (b)

@@ -21,7 +21,7 @@ pub fn box_distance(f: &[f64; 512], w: &[u64; 512]) -> bool
     ensures { λ r. ⌜ r ≡ Spec.boxDistance (now (f .entry)) (now (w .entry)) ⌝ }
 {
     same_number(
-        coupling::distance::triangle_aabb_distance_squared(triangle(f, 0), triangle(f, 9)),
+        panel_distance::distance::triangle_aabb_distance_squared(triangle(f, 0), triangle(f, 9)),
         w,
         18,
     )
@@ -31,7 +31,7 @@ pub fn panel_distance(f: &[f64; 512], w: &[u64; 512]) -> bool
     ensures { λ r. ⌜ r ≡ Spec.panelDistance (now (f .entry)) (now (w .entry)) ⌝ }
 {
     same_number(
-        coupling::distance::triangle_distance_squared(triangle(f, 0), triangle(f, 9)),
+        panel_distance::distance::triangle_distance_squared(triangle(f, 0), triangle(f, 9)),
         w,
         18,
     )
@@ -41,7 +41,7 @@ pub fn longest_edge(f: &[f64; 512], w: &[u64; 512]) -> bool
     ensures { λ r. ⌜ r ≡ Spec.longestEdge (now (f .entry)) (now (w .entry)) ⌝ }
 {
     same_number(
-        coupling::distance::triangle_max_edge_squared(triangle(f, 0)),
+        panel_distance::distance::triangle_max_edge_squared(triangle(f, 0)),
         w,
         9,
     )
@@ -61,7 +61,7 @@ pub fn point_distance(f: &[f64; 512], w: &[u64; 512]) -> bool
     ensures { λ r. ⌜ r ≡ Spec.pointDistance (now (f .entry)) (now (w .entry)) ⌝ }
 {
     same_number(
-        coupling::distance::point_triangle_distance_squared(vector(f, 0), triangle(f, 3)),
+        panel_distance::distance::point_triangle_distance_squared(vector(f, 0), triangle(f, 3)),
         w,
         12,
     )
@@ -71,7 +71,7 @@ pub fn segment_distance(f: &[f64; 512], w: &[u64; 512]) -> bool
     ensures { λ r. ⌜ r ≡ Spec.segmentDistance (now (f .entry)) (now (w .entry)) ⌝ }
 {
     same_number(
-        coupling::distance::segment_distance_squared(
+        panel_distance::distance::segment_distance_squared(
             vector(f, 0),
             vector(f, 3),
             vector(f, 6),

@@ -14,7 +14,13 @@ pub fn row_matrix(f: &[f64; 512], w: &[u64; 512]) -> bool
     let matrix = &all[0..size];
     let mut offset = 0usize;
     let mut length = 0usize;
-    let r = screens::assembly::screens_matrix_row(matrix, n, node, &mut offset, &mut length);
+    let r = screens_assembly::assembly::screens_matrix_row(
+        matrix,
+        n,
+        node,
+        &mut offset,
+        &mut length,
+    );
     same_place(r, offset, length, w, 3)
 }
 
@@ -28,7 +34,7 @@ pub fn row_map(f: &[f64; 512], w: &[u64; 512]) -> bool
     let map = &all[0..size];
     let mut offset = 0usize;
     let mut length = 0usize;
-    let r = screens::assembly::screens_map_row(map, n, node, &mut offset, &mut length);
+    let r = screens_assembly::assembly::screens_map_row(map, n, node, &mut offset, &mut length);
     same_place(r, offset, length, w, 3)
 }
 

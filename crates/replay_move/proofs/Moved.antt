@@ -10,7 +10,7 @@ use mir.Val.{Fits}
 use borrow.Author.Needs.{fits-under}
 use borrow.Author.Tests.{eqb-true, eqb-false}
 use lib.Dec.{eqb}
-use lib.ListN.{length, getD, take}
+use lib.ListN.{length, getD, take, length-take}
 use lib.Ieee.{Float}
 use Rattle.mesh.specs.Refusal.{after, after-done, after-refused}
 use Rattle.binary64.specs.Binary64.{at}
@@ -23,7 +23,8 @@ use Rattle.scatter.specs.Renewal.{renewed}
 use Rattle.node_move.specs.Move.{moved, ring, namedCount, moveRefusal, MoveClaim}
 use Rattle.replay_words.proofs.Lent.{at-most}
 use Rattle.replay_words.specs.Words.{cutAt, part, vectorAt}
-use Rattle.replay_move.specs.Move.{leftAsDue, moveInto, moveOf}
+use Rattle.replay_columns.specs.After.{leftAsDue}
+use Rattle.replay_move.specs.Move.{moveInto, moveOf}
 
 -- a column or the matrix, by the two cases
 joined : {A : Type 0} (r : ℕ) (due held new : List A) → (r ≡ 0 → new ≡ due) → ((r ≡ 0 → ⊥) → new ≡ held) → new ≡ after r due held
@@ -80,6 +81,7 @@ pub record Places (g n : ℕ) : Type 0 where
   pub matrix-end : Fits w64 (g + 1 + n)
   pub end-bytes : Fits w64 ((g + 1 + n) * 8)
   pub inside : g + 1 + n < 512
+  pub vector : g + 2 + n + 3 ≤ 512
   pub two : Fits w64 (g + 2)
   pub place : Fits w64 (g + 2 + n)
   pub five : Fits w64 (g + 5)
@@ -92,11 +94,40 @@ places g n a b = record {
   matrix-end = fits-under w64 (g + 1 + n) 4096 (omega arith) tt;
   end-bytes = fits-under w64 ((g + 1 + n) * 8) 4096 (omega arith) tt;
   inside = omega arith;
+  vector = omega arith;
   two = fits-under w64 (g + 2) 4096 (omega arith) tt;
   place = fits-under w64 (g + 2 + n) 4096 (omega arith) tt;
   five = fits-under w64 (g + 5) 4096 (omega arith) tt;
   results = fits-under w64 (g + 5 + n) 4096 (omega arith) tt;
 }
+
+-- the stored results, with columns of so many nodes, end within the case
+pub results-inside : (g n nx ny nz : ℕ) (l : List Float) → (g ≤ 130) × (nx ≤ 20) × (ny ≤ 20) × (nz ≤ 20) → n ≤ 128 → g + 5 + n + 2 + length (take (g + 1 + n - (g + 1)) l) + nx + ny + nz ≤ 512
+results-inside g n nx ny nz l a b = omega (arith, cells-short g n 128 l b)
+
+-- the lengths of what the call leaves are those of what it was lent, and so of what the case has
+pub as-long : (k nx ny nz n : ℕ) {x y z cells x0 y0 z0 cells0 : List Float}
+    → k + 2 + length cells0 + length x0 + length y0 + length z0 ≤ 512
+    → (x ≡ x0) × (y ≡ y0) × (z ≡ z0) × (cells ≡ cells0)
+    → nx ≡ length x
+    → ny ≡ length y
+    → nz ≡ length z
+    → n ≡ length cells
+    → (k + 2 + n + nx + ny + nz ≤ 512) × ((nx ≡ length x0) × (ny ≡ length y0) × (nz ≡ length z0) × (n ≡ length cells0))
+as-long k nx ny nz n h s ex ey ez en =
+    let x = ex ∙ ap length (s .0) in
+    let y = ey ∙ ap length (s .1) in
+    let z = ez ∙ ap length (s .2) in
+    let e = en ∙ ap length (s .3) in
+    (omega (arith, h, x, y, z, e), (x, y, z, e))
+
+-- a copy is as long as what it holds
+pub copy-long : (v copy : List Float) → part copy 0 (length v) ≡ v → length v ≤ length copy
+copy-long v copy e = omega (arith, ap length e, length-take (length v - 0) copy)
+
+-- the place behind a mesh is within the case
+pub behind-inside : (g : ℕ) → g ≤ 130 → g < 512
+behind-inside g h = omega arith
 
 -- a column is short enough to be copied
 pub column-short : (n : ℕ) → n ≤ 20 → n ≤ 128

@@ -1,5 +1,5 @@
 -- What a case of the move compares: number, count, matrix and nodes; on a refusal matrix and nodes with what they were. Definitions only.
-use mathlib.Core.Bool.{Bool, cond, _&&_}
+use mathlib.Core.Bool.{Bool, false, cond}
 use mathlib.Core.List.{List}
 use Prim.Native.Nat.{ℕ, _+_}
 use lib.Dec.{eqb}
@@ -14,16 +14,9 @@ use Rattle.scatter.specs.Renewal.{renewed}
 use Rattle.inductance.specs.Matrix.{cell}
 use Rattle.inductance.specs.Assembly.{blockUnder}
 use Rattle.node_move.specs.Move.{moved, ring, namedCount, moveRefusal}
-use Rattle.replay_words.specs.Words.{cutAt, part, vectorAt, sameCount}
-use Rattle.replay_words.specs.Buffers.{kept}
-
--- three columns after a call, one behind the other, and before it
-unfoldable pub keptColumns : ℕ → List Float → List Float → List Float → List Float → List Float → List Float → List ℕ → ℕ → Bool
-keptColumns r x y z x0 y0 z0 w k = kept r x x0 w k && (kept r y y0 w (k + length x) && kept r z z0 w (k + length x + length y))
-
--- number, count, matrix and columns after a call, and matrix and columns before it
-unfoldable pub leftAsDue : ℕ → ℕ → List Float → List Float → List Float → List Float → List Float → List Float → List Float → List Float → List ℕ → ℕ → Bool
-leftAsDue r count x y z cells x0 y0 z0 cells0 w k = sameCount r count w k && (kept r cells cells0 w (k + 2) && keptColumns r x y z x0 y0 z0 w (k + 2 + length cells))
+use Rattle.replay_words.specs.Words.{cutAt, ruleOf, part, vectorAt}
+use Rattle.replay_columns.specs.After.{leftAsDue}
+use Rattle.replay_columns.specs.Columns.{columnAt, meshAt}
 
 -- the move of node v to the place p, under a rule by its number
 unfoldable pub moveInto : ℕ → Mesh → List Float → ℕ → List Float → List ℕ → ℕ → Bool
@@ -40,3 +33,9 @@ unfoldable pub moveOf : ℕ → Mesh → List Float → List ℕ → ℕ → Boo
 moveOf rule m f w g =
     let n = cutAt w g 128 in
     moveInto rule m (part f (g + 1) (g + 1 + n)) (getD w (g + 1 + n) 0) (vectorAt f (g + 2 + n)) w (g + 5 + n)
+
+unfoldable pub moveCase : List Float → List ℕ → List ℕ → Bool
+moveCase f u w = moveOf (ruleOf (getD w 0 0)) (meshAt f u w 1) f w (columnAt w 1 6)
+
+unfoldable pub movesAgree : ℕ → List Float → List ℕ → List ℕ → Bool
+movesAgree kind f u w = cond (eqb kind 30) (moveCase f u w) false

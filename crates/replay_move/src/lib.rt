@@ -1,64 +1,17 @@
-// The move of a node: behind the mesh stand the matrix, the node and its new place. The call is lent copies of what it changes.
+// The move of a node: behind the rule and the mesh stand the matrix, the node and its new place. The call is lent copies of what it changes.
 ghost use mathlib.Core.Path.{_≡_};
 ghost use Prim.Native.Nat.{_+_, _≤_};
 ghost use lib.ListN.{length};
 ghost use Rattle.mesh.specs.Mesh.{meshOf};
 ghost use Rattle.replay_move.specs.Move as Spec;
-use replay_words::buffers::kept;
+use replay_columns::after::left_as_due;
+use replay_columns::columns::column_at;
+use replay_columns::columns::nodes;
+use replay_columns::columns::panels;
 use replay_words::copies::copied;
 use replay_words::words::cut_at;
-use replay_words::words::same_count;
+use replay_words::words::rule_of;
 use replay_words::words::vector;
-
-// Three columns after the call, and before it.
-fn kept_columns(
-    refusal: u32,
-    x: &[f64],
-    y: &[f64],
-    z: &[f64],
-    x0: &[f64],
-    y0: &[f64],
-    z0: &[f64],
-    w: &[u64; 512],
-    k: usize,
-) -> bool
-    requires { ⌜ k + length (now x) + length (now y) + length (now z) ≤ 512 ⌝ }
-    requires { ⌜ (length (now x) ≡ length (now x0)) × (length (now y) ≡ length (now y0)) × (length (now z) ≡ length (now z0)) ⌝ }
-    ensures { λ r. ⌜ r ≡ Spec.keptColumns refusal (now (x .entry)) (now (y .entry)) (now (z .entry)) (now (x0 .entry)) (now (y0 .entry)) (now (z0 .entry)) (now (w .entry)) k ⌝ }
-{
-    let p = k + x.len();
-    let q = p + y.len();
-    let a = kept(refusal, x, x0, w, k);
-    let b = kept(refusal, y, y0, w, p);
-    let c = kept(refusal, z, z0, w, q);
-    (a) & ((b) & (c))
-}
-
-// Number, count, matrix and columns after the call, and matrix and columns before it.
-fn left_as_due(
-    refusal: u32,
-    count: usize,
-    x: &[f64],
-    y: &[f64],
-    z: &[f64],
-    cells: &[f64],
-    x0: &[f64],
-    y0: &[f64],
-    z0: &[f64],
-    cells0: &[f64],
-    w: &[u64; 512],
-    k: usize,
-) -> bool
-    requires { ⌜ k + 2 + length (now cells) + length (now x) + length (now y) + length (now z) ≤ 512 ⌝ }
-    requires { ⌜ (length (now x) ≡ length (now x0)) × (length (now y) ≡ length (now y0)) × (length (now z) ≡ length (now z0)) × (length (now cells) ≡ length (now cells0)) ⌝ }
-    ensures { λ r. ⌜ r ≡ Spec.leftAsDue refusal count (now (x .entry)) (now (y .entry)) (now (z .entry)) (now (cells .entry)) (now (x0 .entry)) (now (y0 .entry)) (now (z0 .entry)) (now (cells0 .entry)) (now (w .entry)) k ⌝ }
-{
-    let p = k + 2 + cells.len();
-    let a = same_count(refusal, count, w, k);
-    let b = kept(refusal, cells, cells0, w, k + 2);
-    let c = kept_columns(refusal, x, y, z, x0, y0, z0, w, p);
-    (a) & ((b) & (c))
-}
 
 // The call on copies, compared.
 fn move_into(
@@ -102,7 +55,7 @@ fn move_into(
     left_as_due(refusal, count, x, y, z, cells, x0, y0, z0, cells0, w, k)
 }
 
-pub fn move_of(
+fn move_of(
     rule: u32,
     x: &[f64],
     y: &[f64],
@@ -144,4 +97,29 @@ pub fn move_of(
         w,
         g + 5 + n,
     )
+}
+
+// The move of a case.
+fn move_case(f: &[f64; 512], u: &[usize; 512], w: &[u64; 512]) -> bool
+    ensures { λ r. ⌜ r ≡ Spec.moveCase (now (f .entry)) (now (u .entry)) (now (w .entry)) ⌝ }
+{
+    let rule = rule_of(w[0]);
+    let x = nodes(f, w, 1, 0);
+    let y = nodes(f, w, 1, 1);
+    let z = nodes(f, w, 1, 2);
+    let t0 = panels(u, w, 1, 3);
+    let t1 = panels(u, w, 1, 4);
+    let t2 = panels(u, w, 1, 5);
+    let g = column_at(w, 1, 6);
+    move_of(rule, x, y, z, t0, t1, t2, f, w, g)
+}
+
+// By the kind's number.
+pub fn agree(kind: u64, f: &[f64; 512], u: &[usize; 512], w: &[u64; 512]) -> bool
+    ensures { λ r. ⌜ r ≡ Spec.movesAgree kind (now (f .entry)) (now (u .entry)) (now (w .entry)) ⌝ }
+{
+    if kind == 30 {
+        return move_case(f, u, w);
+    }
+    false
 }

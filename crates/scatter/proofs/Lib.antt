@@ -4,3 +4,5 @@ pub mod Links
 pub mod Clearing
 pub mod Misses
 pub mod Renewals
+pub mod Flags
+pub mod Few

@@ -1,3 +1,4 @@
 pub mod Entries
 pub mod Renewal
 pub mod Links
+pub mod Flags

@@ -7,12 +7,14 @@ ghost use mathlib.Core.List.{[], _∷_};
 ghost use Prim.Native.Nat.{_<_, _≤_, _*_, _-_};
 ghost use lib.ListN.{length};
 ghost use Rattle.binary64.specs.Binary64.{plusZero};
-ghost use Rattle.mesh.specs.Mesh.{maxNodes};
+ghost use Rattle.mesh.specs.Mesh.{maxNodes, meshOf};
+ghost use Rattle.mesh.specs.Conditions.{PanelColumnsAlike};
 ghost use Rattle.mesh.specs.Counting.{anyOf, three};
 ghost use Rattle.mesh.specs.Filling.{run};
 ghost use Rattle.scatter.specs.Entries.{entry, rowEntries, blockEntries, oriented, withTransposed};
 ghost use Rattle.scatter.specs.Renewal.{named, renewed, addAt, renewing, clearedIn, marked, Sized, AllBelow};
 ghost use Rattle.scatter.specs.Links.{nextFrom, Linked};
+ghost use Rattle.scatter.specs.Flags.{IndicesBelow, Flagged};
 
 // One addition.
 fn add_at(out: &mut [f64], n: usize, row: usize, col: usize, v: f64)
@@ -185,5 +187,19 @@ pub fn clear_named(out: &mut [f64], n: usize, marks: &[bool])
     while row < n {
         clear_row(out, n, marks, &links, row);
         row += 1;
+    }
+}
+
+// Which panels have a marked node.
+pub fn flag_panels(t0: &[usize], t1: &[usize], t2: &[usize], marks: &[bool], flags: &mut [bool])
+    requires { ⌜ PanelColumnsAlike (meshOf [] [] [] (now t0) (now t1) (now t2)) ⌝ }
+    requires { ⌜ IndicesBelow (length (now marks)) (meshOf [] [] [] (now t0) (now t1) (now t2)) ⌝ }
+    requires { ⌜ length (now t0) ≤ length (now flags) ⌝ }
+    ensures { λ _. ⌜ Flagged (length (now (t0 .entry))) (meshOf [] [] [] (now (t0 .entry)) (now (t1 .entry)) (now (t2 .entry))) (now (marks .entry)) (now (flags .exit)) ⌝ }
+{
+    let mut i = 0;
+    while i < t0.len() {
+        flags[i] = touches(marks, mesh::triangle_indices(t0, t1, t2, i));
+        i += 1;
     }
 }

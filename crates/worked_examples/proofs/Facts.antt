@@ -11,8 +11,8 @@ use Rattle.mesh.specs.Counting.{someBelow, anyOf}
 use Rattle.mesh.specs.Filling.{tabulateFrom}
 use Rattle.mesh.specs.Mesh.{meshRefusal, meshChecks, lengthsDiffer, passesLimits, missesNode, isZeroArea}
 use Rattle.boundary_element.specs.Identity.{pointsMatch, matchesCorner, trianglesIdentical}
-use Rattle.coupling.specs.Distance.{distanceSquared, pointTriangleDistanceSquared, lineParameter, offsetSquared, keptOffsetSquared, segmentDistanceSquared, leastOfCorners, leastOfEdges, triangleDistanceSquared, lowest, highest, gap, triangleAabbDistanceSquared, triangleMaxEdgeSquared}
-use Rattle.coupling.specs.Bisection.{firstLongest, longestEdge, midpoint, halves, longestEdgeBisection}
+use Rattle.panel_distance.specs.Distance.{distanceSquared, pointTriangleDistanceSquared, lineParameter, offsetSquared, keptOffsetSquared, segmentDistanceSquared, leastOfCorners, leastOfEdges, triangleDistanceSquared, lowest, highest, gap, triangleAabbDistanceSquared, triangleMaxEdgeSquared}
+use Rattle.panel_distance.specs.Bisection.{firstLongest, longestEdge, midpoint, halves, longestEdgeBisection}
 use Rattle.coupling.specs.Coupling.{isFar}
 use Rattle.linkage.specs.Energy.{rowAdded, rowsAdded}
 use Rattle.linkage.specs.Flux.{fluxTo, interactionTo, lacksSources, brokenRows, rowsDiffer, mapRefusal}

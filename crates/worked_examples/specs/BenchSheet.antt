@@ -9,7 +9,7 @@ use Rattle.ieee754.specs.Ieee754.{fma, sqrt}
 use Rattle.math.specs.Math.{Vec}
 use Rattle.tri.specs.Mapping.{Tri}
 use Rattle.mesh.specs.Mesh.{Mesh, meshOf, meshRefusal, maxNodes, maxPanels}
-use Rattle.coupling.specs.Bisection.{longestEdge, longestEdgeBisection}
+use Rattle.panel_distance.specs.Bisection.{longestEdge, longestEdgeBisection}
 use Rattle.coupling.specs.Coupling.{isFar}
 use Rattle.linkage.specs.Energy.{inductiveEnergy}
 use Rattle.linkage.specs.Flux.{fluxLinkage, interactionEnergy, mapRefusal}

@@ -5,7 +5,7 @@ ghost use lib.ListN.{getD};
 ghost use lib.IntN.{pos};
 ghost use Rattle.binary64.specs.Binary64.{bits, plusZero, one, four};
 ghost use Rattle.mesh.specs.Mesh.{meshRefusal, maxNodes, maxPanels};
-ghost use Rattle.coupling.specs.Bisection.{longestEdge, longestEdgeBisection};
+ghost use Rattle.panel_distance.specs.Bisection.{longestEdge, longestEdgeBisection};
 ghost use Rattle.coupling.specs.Coupling.{isFar};
 ghost use Rattle.linkage.specs.Energy.{inductiveEnergy};
 ghost use Rattle.linkage.specs.Flux.{fluxLinkage, interactionEnergy, mapRefusal};
@@ -37,14 +37,14 @@ pub fn far_when_raised(z: f64) -> bool
 pub fn split_edge() -> usize
     ensures { λ r. ⌜ r ≡ longestEdge unit ⌝ }
 {
-    coupling::bisection::longest_edge([[0.0, 0.0, 0.0], [1.0, 0.0, 0.0], [0.0, 1.0, 0.0]])
+    panel_distance::bisection::longest_edge([[0.0, 0.0, 0.0], [1.0, 0.0, 0.0], [0.0, 1.0, 0.0]])
 }
 
 // The corner that is new in the first half.
 pub fn split_point() -> [f64; 3]
     ensures { λ r. ⌜ r ≡ getD (getD (longestEdgeBisection unit) 0 []) 1 [] ⌝ }
 {
-    let halves = coupling::bisection::longest_edge_bisection([
+    let halves = panel_distance::bisection::longest_edge_bisection([
         [0.0, 0.0, 0.0],
         [1.0, 0.0, 0.0],
         [0.0, 1.0, 0.0],

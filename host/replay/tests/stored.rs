@@ -3,18 +3,19 @@ use std::collections::BTreeMap;
 use std::path::Path;
 
 fn replay() {
-    let bytes = sample();
     let (mut counts, mut rest) = (BTreeMap::new(), BTreeMap::new());
-    cases::file::read(&bytes, |kind, input, due| {
-        let name = cases::name(kind);
-        let Some(call) = replay::call(name) else {
-            *rest.entry(name).or_insert(0) += 1;
-            return;
-        };
-        let got = replay::answer(call, input);
-        assert_eq!(got, due, "{name} {input:x?}");
-        *counts.entry(name).or_insert(0) += 1;
-    });
+    for file in FILES {
+        cases::file::read(&sample(file), |kind, input, due| {
+            let name = cases::name(kind);
+            let Some(call) = replay::call(name) else {
+                *rest.entry(name).or_insert(0) += 1;
+                return;
+            };
+            let got = replay::answer(call, input);
+            assert_eq!(got, due, "{name} {input:x?}");
+            *counts.entry(name).or_insert(0) += 1;
+        });
+    }
     println!(
         "{} kinds, {} cases, 0 differ",
         counts.len(),
@@ -25,14 +26,20 @@ fn replay() {
     assert_eq!(counts.len(), replay::CALLS.len(), "every call is in the sample");
 }
 
-/// The stored sample: a file of the oracle, or what the program that replays it in Rattle reads.
-fn sample() -> Vec<u8> {
+/// The files of the stored sample, one for each program that replays it in Rattle.
+const FILES: [&str; 3] = ["calls", "meshes", "matrices"];
+
+/// A file of the stored sample: the oracle's, or what the program reads.
+fn sample(file: &str) -> Vec<u8> {
     let repository = Path::new(env!("CARGO_MANIFEST_DIR")).join("../..");
-    let places = ["oracle/sample/cases.bin", "crates/oracle_replay/stdin"];
+    let places = [
+        format!("oracle/sample/{file}.bin"),
+        format!("crates/oracle_{file}/stdin"),
+    ];
     let found = places
         .iter()
         .find_map(|place| std::fs::read(repository.join(place)).ok());
-    found.expect("the stored sample")
+    found.unwrap_or_else(|| panic!("the stored sample: {file}"))
 }
 
 /// What the crate has no call for: the program `density`, and two distances that are private in the original.

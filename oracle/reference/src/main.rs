@@ -9,7 +9,7 @@ use std::process::ExitCode;
 const USAGE: &str =
     "oracle selfcheck                           document 01's bench sheet, findings, constants, tables, poor panels
 oracle generate SEED FILE [SCALE] [KIND]   cases by seed (FORMAT.md)
-oracle sample SEED FILE COUNT              COUNT small cases of each call by seed
+oracle sample SEED FILE COUNT [KIND...]    COUNT small cases of each call by seed, or of the named ones
 oracle check FILE                          answers the file's cases again and compares
 oracle statistics FILE                     refusals and sorts of results by kind
 oracle show FILE [KIND] [COUNT]            cases in hexadecimal
@@ -31,9 +31,10 @@ fn main() -> ExitCode {
             write_file(file, |each| generate::all(seed, scale, only, each));
             true
         }
-        ["sample", seed, file, count] => {
+        ["sample", seed, file, count, ref kinds @ ..] => {
             let (seed, count) = (seed.parse().expect("SEED"), count.parse().expect("COUNT"));
-            write_file(file, |each| generate::sample(seed, count, each));
+            let kinds: Vec<u32> = kinds.iter().map(|name| named(name)).collect();
+            write_file(file, |each| generate::sample(seed, count, &kinds, each));
             true
         }
         ["check", file] => check(file),

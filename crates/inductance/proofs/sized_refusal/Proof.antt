@@ -5,9 +5,9 @@ use denote.Ref.{now}
 use Rattle.mesh.specs.Refusal.{first}
 use Rattle.mesh.specs.Mesh.{Mesh, meshOf, nnode, maxNodes, maxPanels}
 use Rattle.mesh.proofs.Refusals.{mesh-stopped, mesh-passed}
+use Rattle.scatter.proofs.Few.{few-cells}
 use Rattle.inductance.specs.Assembly.{sizeChecks, sizedRefusal}
 use borrow.Author.Needs.{needs}
-use Rattle.inductance.proofs.Ready.{few-cells}
 use Rattle.inductance.proofs.sized_refusal.Statement.{statement}
 use Rattle.inductance.proofs.sized_refusal.Tie as tie
 

@@ -1,17 +1,22 @@
--- The nine numbers of each half are the definition's.
-use native.Mathlib.Omega.{arith}
+-- The nine numbers of each half, put one behind the other.
 use borrow.Author.Needs.{needs}
-use mathlib.Core.List.{_++_}
-use Rattle.mesh.specs.Filling.{tabulateFrom}
-use Rattle.lent_numbers.specs.Numbers.{halvesOf, rowsOf}
+use mathlib.Core.Path.{refl, _∙_}
+use native.Mathlib.Omega.{arith}
+use Rattle.lent_numbers.specs.Numbers.{halvesOf}
+use Rattle.lent_numbers.proofs.Parts.{none, next, all}
 use Rattle.lent_numbers.proofs.eighteen.Statement.{statement}
 use Rattle.lent_numbers.proofs.eighteen.Tie as tie
 
 returns : tie.Need-returns
-unfolding halvesOf rowsOf tabulateFrom
-returns c = rw (c .before .before .nine .ensures, c .nine2 .ensures)
+unfolding halvesOf
+returns c =
+    let p = c .before .before .before .before .before in
+    let b = p .before .before .before in
+    let a = b .before .before in
+    let first = next 0 9 (a .nine .result) (p .put .ensures) (none 18 _ refl) (search needs) (omega arith) in
+    all (next 9 9 (b .nine2 .result) (c .before .put2 .ensures) first (search needs) (omega arith)) ∙ rw (a .nine .ensures, b .nine2 .ensures)
 
 pub eighteen-spec : {M : Type 1} → statement M
 eighteen-spec =
     tie.close
-    (tie.spec (search needs) (λ c κs. tt) (search needs) (λ c κs. tt) (λ c. omega arith) (λ c. omega arith) (λ c. omega arith) (λ c. omega arith) (λ c. omega arith) (λ c. omega arith) (λ c. omega arith) (λ c. omega arith) (λ c. omega arith) (λ c. omega arith) (λ c. omega arith) (λ c. omega arith) (λ c. omega arith) (λ c. omega arith) (λ c. omega arith) (λ c. omega arith) (λ c. omega arith) (λ c. omega arith) returns)
+    (tie.spec (search needs) (search needs) (search needs) (search needs) (search needs) (search needs) (search needs) (search needs) (search needs) (search needs) returns)

@@ -1,5 +1,5 @@
 -- The marks are the ring, their count gives the count of the named cells, and the renewed matrix is that of the mesh as written.
-use mathlib.Core.Path.{refl}
+use mathlib.Core.Path.{_≡_, refl, sym, subst}
 use Prim.Native.Nat.{ℕ, _≤_, _<_, _*_}
 use native.Mathlib.Nat.{lt-of-lt-of-le}
 use native.Mathlib.Omega.{arith}
@@ -21,11 +21,18 @@ use Rattle.node_move.proofs.move_accepted.Tie as tie
 small-place : (v n : ℕ) → v < n → n ≤ 4096 → Fits w64 (v * 8)
 small-place v n p q = fits-under w64 (v * 8) 32768 (omega arith) tt
 
+-- as many marks as there may be nodes
+marks-enough : (n l : ℕ) → n ≤ 4096 → l ≡ 4096 → n ≤ l
+marks-enough n l h e = subst (λ (k : ℕ). n ≤ k) (sym e) h
+
 mark-ring-requires : tie.Need-mark-ring-requires
 mark-ring-requires c κs =
     let w = c .before .before .before .before .before .before .before .before in
     let a = w .args in
     (record { t1-long = w .pre .panels-alike .t1-long; t2-long = w .pre .panels-alike .t2-long }, (ring-ready (meshOf (now (a .x)) (now (a .y)) (now (a .z)) (now (a .t0)) (now (a .t1)) (now (a .t2))) (now (a .out)) (a .v) (w .pre), lt-of-lt-of-le (w .pre .there) (w .pre .small)))
+
+count-marks-requires : tie.Need-count-marks-requires
+count-marks-requires c κs = marks-enough _ _ (c .before .before .before .before .before .before .before .before .before .before .before .pre .small) (c .before .before .mark-ring .kept .0)
 
 mul-x : tie.Need-mul-x
 mul-x c =
@@ -44,8 +51,8 @@ mul-y c =
 
 slice-write-y : tie.Need-slice-write-y
 slice-write-y c =
-    let p = c .before .before .before .before .before .before .before .before .before .before .before .before .pre in
-    omega (arith, p .there, p .nodes-alike .ys-long)
+    let w = c .before .before .before .before .before .before .before .before .before .before .before .before in
+    subst (λ (k : ℕ). w .args .v < k) (sym (w .pre .nodes-alike .ys-long)) (w .pre .there)
 
 mul-z : tie.Need-mul-z
 mul-z c =
@@ -54,19 +61,30 @@ mul-z c =
 
 slice-write-z : tie.Need-slice-write-z
 slice-write-z c =
-    let p = c .before .before .before .before .before .before .before .before .before .before .before .before .pre in
-    omega (arith, p .there, p .nodes-alike .zs-long)
+    let w = c .before .before .before .before .before .before .before .before .before .before .before .before in
+    subst (λ (k : ℕ). w .args .v < k) (sym (w .pre .nodes-alike .zs-long)) (w .pre .there)
 
 renew-requires : tie.Need-renew-requires
 renew-requires c κs =
     let w = c .before .before .before .before .before .before .before .before .before .before .before .before .before .before .before .before .before in
     let a = w .args in
-    moved-ready (meshOf (now (a .x)) (now (a .y)) (now (a .z)) (now (a .t0)) (now (a .t1)) (now (a .t2))) (now (a .out)) (a .v) _ _ _ (c .before .before .before .before .before .before .before .before .mark-ring .last .0) (w .pre) (omega (arith, w .pre .small))
+    let q = c .before .before .before .before .before .before .before .before .mark-ring in
+    moved-ready (meshOf (now (a .x)) (now (a .y)) (now (a .z)) (now (a .t0)) (now (a .t1)) (now (a .t2))) (now (a .out)) (a .v) _ _ _ (q .last .0) (w .pre) (marks-enough _ _ (w .pre .small) (q .kept .0))
 
 named-cells-requires : tie.Need-named-cells-requires
 named-cells-requires c κs =
     let w = c .before .before .before .before .before .before .before .before .before .before .before .before .before .before .before .before .before .before .before .before in
-    (w .pre .small, omega (arith, count-bound (marked (c .before .before .before .before .before .before .before .before .before .before .before .mark-ring .last .0)) (length (now (w .args .x))), c .before .before .before .before .before .before .before .before .count-marks .ensures))
+    let n = length (now (w .args .x)) in
+    (w .pre .small, subst (λ (k : ℕ). k ≤ n) (sym (c .before .before .before .before .before .before .before .before .count-marks .ensures)) (count-bound (marked (c .before .before .before .before .before .before .before .before .before .before .before .mark-ring .last .0)) n))
+
+same-length : tie.Need-same-length
+same-length c = let a = c .before .before .before .before .before .before .before .before .before .before .before .before .before .before .before .before .before .before .before .before .before .args in length-set (now (a .x)) (a .v) _
+
+same-length-2 : tie.Need-same-length-2
+same-length-2 c = let a = c .before .before .before .before .before .before .before .before .before .before .before .before .before .before .before .before .before .before .before .before .before .args in length-set (now (a .y)) (a .v) _
+
+same-length-3 : tie.Need-same-length-3
+same-length-3 c = let a = c .before .before .before .before .before .before .before .before .before .before .before .before .before .before .before .before .before .before .before .before .before .args in length-set (now (a .z)) (a .v) _
 
 returns : tie.Need-returns
 returns c =
@@ -80,4 +98,4 @@ returns c =
 pub move-accepted-spec : {M : Type 1} → statement M
 move-accepted-spec =
     tie.close
-    (tie.spec (λ c. refl) mark-ring-requires (λ c. omega arith) (λ c κs. omega arith) mul-x slice-write-x mul-y slice-write-y mul-z slice-write-z (λ c. omega arith) renew-requires named-cells-requires (λ c. simp length-set) (λ c. simp length-set) (λ c. simp length-set) (λ c. omega arith) returns)
+    (tie.spec (λ c. refl) mark-ring-requires (λ c. sym (c .before .before .mark-ring .kept .0)) count-marks-requires mul-x slice-write-x mul-y slice-write-y mul-z slice-write-z (λ c. sym (c .before .before .before .before .before .before .before .mark-ring .kept .0)) renew-requires named-cells-requires same-length same-length-2 same-length-3 (λ c. c .before .before .before .renew .kept .1 .1 .1 .1 .1 .1 .1 .1 .0) returns)

@@ -1,5 +1,4 @@
 -- A refusal leaves everything as it was; a move that is done is ready, and its own claim is that of the call.
-use native.Mathlib.Omega.{arith}
 use mathlib.Core.Path.{sym, _∙_, refl}
 use denote.Ref.{now}
 use Rattle.mesh.specs.Mesh.{Mesh, meshOf}
@@ -30,4 +29,4 @@ returns-2 c =
 pub move-under-spec : {M : Type 1} → statement M
 move-under-spec =
     tie.close
-    (tie.spec (λ c κs. tt) (λ c. refl) (λ c. refl) (λ c. refl) returns move-accepted-requires (λ c. omega arith) (λ c. omega arith) (λ c. omega arith) (λ c. omega arith) returns-2)
+    (tie.spec (λ c κs. tt) (λ c. refl) (λ c. refl) (λ c. refl) returns move-accepted-requires (λ c. c .before .before .before .before .before .before .before .before .move-accepted .kept .1 .0) (λ c. c .before .before .before .before .before .before .before .before .move-accepted .kept .1 .1 .0) (λ c. c .before .before .before .before .before .before .before .before .move-accepted .kept .1 .1 .1 .0) (λ c. c .before .before .before .before .before .before .before .before .move-accepted .kept .1 .1 .1 .1 .1 .1 .1 .0) returns-2)

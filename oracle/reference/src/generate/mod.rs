@@ -355,9 +355,11 @@ pub fn all(seed: u64, scale: f64, only: Option<u32>, mut each: impl FnMut(u32, &
 /// The most words of a case of a sample, and the longest matrix or map whose row it asks for.
 const SAMPLE_WORDS: usize = 512;
 
-/// So many cases of every kind that is a call, by seed, small enough for a program with fixed buffers.
-pub fn sample(seed: u64, count: usize, mut each: impl FnMut(u32, &[u64], &[u64])) {
-    for kind in (1..=eval::NAMES.len() as u32).filter(|&kind| eval::name(kind) != "steps") {
+/// So many cases of every kind that is a call, by seed, small enough for a program with fixed buffers; of some kinds only if
+/// any are named.
+pub fn sample(seed: u64, count: usize, kinds: &[u32], mut each: impl FnMut(u32, &[u64], &[u64])) {
+    let wanted = |kind: &u32| eval::name(*kind) != "steps" && (kinds.is_empty() || kinds.contains(kind));
+    for kind in (1..=eval::NAMES.len() as u32).filter(wanted) {
         let row = eval::name(kind).starts_with("row_");
         let mut r = Rng(seed.wrapping_mul(0x2545f4914f6cdd1d) ^ ((kind as u64) << 48));
         let mut left = count;

@@ -7,7 +7,7 @@ use Rattle.coupling.specs.Coupling.{fixed-leaf, fixed-halves}
 use Rattle.coupling.proofs.coupling.triangle_geometric_coupling_exact_fixed.Reads as reads
 use Rattle.coupling.proofs.coupling.triangle_geometric_coupling_exact_fixed.Kinds as kinds
 use Rattle.coupling.proofs.coupling.triangle_geometric_coupling_exact_directed.Reads as directed
-use Rattle.coupling.proofs.bisection.longest_edge_bisection.Reads as bisection
+use Rattle.panel_distance.proofs.bisection.longest_edge_bisection.Reads as bisection
 use Rattle.coupling.proofs.coupling.+triangle_geometric_coupling_exact_fixed.Lts-triangle_geometric_coupling_exact_fixed as lts
 use Rattle.coupling.proofs.coupling.+triangle_geometric_coupling_exact_fixed.{statement}
 use Rattle.coupling.proofs.coupling.+triangle_geometric_coupling_exact_fixed.Tie.{close}

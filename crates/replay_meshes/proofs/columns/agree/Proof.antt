@@ -1,20 +1,17 @@
--- The two tests of the kind.
+-- The test of the kind.
+use native.Mathlib.Nat.{le-add-right}
+use borrow.Author.Tests.{eq-eqb, ne-eqb}
 use Rattle.replay_meshes.specs.Meshes.{meshesAgree}
-use native.Mathlib.Omega.{arith}
 use Rattle.replay_meshes.proofs.columns.agree.Statement.{statement}
 use Rattle.replay_meshes.proofs.columns.agree.Tie as tie
 
 returns : tie.Need-returns
 unfolding meshesAgree
-returns c = rw (c .before .if1 .taken) (c .with-nodes .ensures)
+returns c = rw (eq-eqb _ _ (c .before .if1 .taken)) (c .with-mesh .ensures)
 
 returns-2 : tie.Need-returns-2
 unfolding meshesAgree
-returns-2 c = rw (c .before .before .if1 .left, c .before .if2 .taken) (c .with-nodes2 .ensures)
-
-returns-3 : tie.Need-returns-3
-unfolding meshesAgree
-returns-3 c = rw (c .before .if1 .left, c .if2 .left)
+returns-2 c = rw (ne-eqb _ _ (c .before .if1 .left)) (c .with-mesh2 .ensures)
 
 pub agree-spec : {M : Type 1} → statement M
-agree-spec = tie.close (tie.spec (λ c κs. omega arith) returns (λ c κs. omega arith) returns-2 returns-3)
+agree-spec = tie.close (tie.spec (λ c κs. le-add-right 1 0) returns (λ c κs. le-add-right 0 1) returns-2)

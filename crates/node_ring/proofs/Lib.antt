@@ -1,0 +1,4 @@
+pub mod Overlay
+pub mod Marks
+pub mod Count
+pub mod Bound

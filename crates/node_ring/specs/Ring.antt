@@ -1,0 +1,24 @@
+-- The ring of changed nodes, the cells that a set of nodes names, and their count. Definitions only.
+use mathlib.Core.Bool.{Bool, _&&_}
+use Prim.Native.Nat.{ℕ, zero, suc, _+_}
+use Rattle.mesh.specs.Counting.{anyOf, someBelow, countBelow}
+use Rattle.mesh.specs.Mesh.{Mesh, ntri, triangleIndices}
+use Rattle.scatter.specs.Entries.{same}
+use Rattle.scatter.specs.Renewal.{named}
+
+-- panel p holds a changed node and the node a
+abbrev pub joins : Mesh → (ℕ → Bool) → ℕ → ℕ → Bool
+joins m changed a p = anyOf changed (triangleIndices m p) && anyOf (same a) (triangleIndices m p)
+
+-- Document 01's "ring": the nodes of every panel that holds a changed node; empty if none does
+abbrev pub ring : Mesh → (ℕ → Bool) → ℕ → Bool
+ring m changed a = someBelow (joins m changed a) (ntri m)
+
+-- how many of the cells (a, b) with a below c and b below n pass the test, counted one by one
+unfoldable pub countRows : (ℕ → ℕ → Bool) → ℕ → ℕ → ℕ
+countRows t n zero = 0
+countRows t n (suc c) = countRows t n c + countBelow (t c) n
+
+-- how many of the n × n cells are named by the set r
+abbrev pub namedCount : (ℕ → Bool) → ℕ → ℕ
+namedCount r n = countRows (named r) n n

@@ -1,0 +1,11 @@
+-- The case's words, numbers and places are its bytes'; the contract of both kinds.
+use Rattle.oracle_matrices.specs.Kinds.{agrees}
+use Rattle.oracle_matrices.proofs.kinds.agrees.Statement.{statement}
+use Rattle.oracle_matrices.proofs.kinds.agrees.Tie as tie
+
+returns : tie.Need-returns
+unfolding agrees
+returns c = rw (← c .before .before .before .before .before .before .before .before .words .ensures, ← c .before .before .before .before .before .before .numbers .ensures, ← c .before .before .before .before .places .ensures) (c .matrices-agree .ensures)
+
+pub agrees-spec : {M : Type 1} → statement M
+agrees-spec = tie.close (tie.spec (λ c κs. tt) (λ c κs. tt) (λ c κs. tt) (λ c κs. tt) returns)

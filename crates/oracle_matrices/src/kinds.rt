@@ -1,0 +1,23 @@
+// The kinds that are replayed.
+ghost use mathlib.Core.Path.{_≡_};
+ghost use Rattle.oracle_matrices.specs.Kinds as Spec;
+use replay_cases::case;
+
+// Whether the results of a case with a matrix are ours, from its numbers, its places and its words.
+fn matrices_agree(kind: u64, f: &[f64; 512], u: &[usize; 512], w: &[u64; 512]) -> bool
+    ensures { λ r. ⌜ r ≡ Spec.matricesAgreeAll kind (now (f .entry)) (now (u .entry)) (now (w .entry)) ⌝ }
+{
+    let a = replay_matrices::agree(kind, f, u, w);
+    let b = replay_move::agree(kind, f, u, w);
+    (a) | (b)
+}
+
+// Whether a case's results are ours, from its kind and its bytes behind the head.
+pub fn agrees(kind: u64, b: &[u8; 4096]) -> bool
+    ensures { λ r. ⌜ r ≡ Spec.agrees kind (now (b .entry)) ⌝ }
+{
+    let w = case::words(b);
+    let f = case::numbers(&w);
+    let u = case::places(&w);
+    matrices_agree(kind, &f, &u, &w)
+}

@@ -1,0 +1,31 @@
+-- The array is filled from the front.
+use mathlib.Core.Path.{_≡_}
+use Prim.Native.Nat.{_-_}
+use native.Mathlib.Omega.{arith}
+use borrow.Author.Needs.{needs}
+use Rattle.replay_cases.specs.Case.{placeAt, placesOf}
+use Rattle.replay_cases.proofs.Unpacked.{Unpacked, start, one-more, whole}
+use Rattle.replay_cases.proofs.case.places.Statement.{statement}
+use Rattle.replay_cases.proofs.case.places.Tie as tie
+
+abbrev Inv-loop : tie.InvT-loop
+Inv-loop w u₀ i₀ u i = Unpacked (placeAt w) u₀ u i
+
+abbrev μ-loop : tie.MeasureT-loop
+μ-loop w u₀ i₀ u i = 512 - i
+
+loop-holds : tie.Need-loop-holds Inv-loop μ-loop
+loop-holds c = start (search needs)
+
+loop-again : tie.Need-loop-again Inv-loop μ-loop
+loop-again c = one-more _ (c .before .before .loop .inv) (c .before .loop-test .taken) (c .place-at .ensures)
+
+returns : tie.Need-returns Inv-loop μ-loop
+unfolding placesOf
+returns c =
+    let l = c .before .loop in
+    let e : l .i ≡ 512 = omega (arith, l .inv .upto, c .loop-test .left) in
+    whole (l .inv) e
+
+pub places-spec : {M : Type 1} → statement M
+places-spec = tie.close (tie.spec Inv-loop μ-loop loop-holds (search needs) (search needs) (search needs) (search needs) (search needs) loop-again returns)

@@ -1,9 +1,0 @@
--- The call's own contract.
-use Rattle.screens.proofs.meshes.screens_mesh_current_density.Statement.{statement}
-use Rattle.screens.proofs.meshes.screens_mesh_current_density.Tie as tie
-
-returns : tie.Need-returns
-returns c = c .before .before .before .before .before .before .triangle-mesh-current-density .ensures
-
-pub screens-mesh-current-density-spec : {M : Type 1} → statement M
-screens-mesh-current-density-spec = tie.close (tie.spec (λ c κs. tt) (λ c. c .before .before .before .before .before .before .triangle-mesh-current-density .kept .1 .1 .1 .1 .1 .1 .1 .0) (λ c. c .before .before .before .before .before .before .triangle-mesh-current-density .kept .1 .1 .1 .1 .1 .1 .1 .1 .0) (λ c. c .before .before .before .before .before .before .triangle-mesh-current-density .kept .1 .1 .1 .1 .1 .1 .1 .1 .1 .0) returns)

@@ -1,9 +1,0 @@
--- The call's own contract.
-use Rattle.screens.proofs.meshes.screens_mesh_quadrature_points.Statement.{statement}
-use Rattle.screens.proofs.meshes.screens_mesh_quadrature_points.Tie as tie
-
-returns : tie.Need-returns
-returns c = c .before .before .before .before .before .before .before .before .triangle-mesh-quadrature-points .ensures
-
-pub screens-mesh-quadrature-points-spec : {M : Type 1} → statement M
-screens-mesh-quadrature-points-spec = tie.close (tie.spec (λ c κs. tt) (λ c. c .before .before .before .before .before .before .before .before .triangle-mesh-quadrature-points .kept .1 .1 .1 .1 .1 .1 .1 .0) (λ c. c .before .before .before .before .before .before .before .before .triangle-mesh-quadrature-points .kept .1 .1 .1 .1 .1 .1 .1 .1 .0) (λ c. c .before .before .before .before .before .before .before .before .triangle-mesh-quadrature-points .kept .1 .1 .1 .1 .1 .1 .1 .1 .1 .0) (λ c. c .before .before .before .before .before .before .before .before .triangle-mesh-quadrature-points .kept .1 .1 .1 .1 .1 .1 .1 .1 .1 .1 .0) returns)

@@ -1,0 +1,156 @@
+// The inductance matrix of a mesh, its energies, and the work with a given map.
+ghost use lib.ListN as List;
+ghost use Rattle.mesh.specs.Mesh.{meshOf};
+ghost use Rattle.inductance.specs.Assembly.{Assembled};
+ghost use Rattle.linkage.specs.Answer.{Answered};
+ghost use Rattle.linkage.specs.Energy as Energy;
+ghost use Rattle.linkage.specs.Flux as Flux;
+ghost use Rattle.linkage.specs.Flux.{Linked};
+ghost use Rattle.linkage.specs.Row as Row;
+ghost use Rattle.tri.specs.Quadrature.{quadratureRule};
+ghost use Rattle.inductance.specs.Assembly.{blockUnder};
+ghost use Rattle.inductance.specs.Matrix as Matrix;
+ghost use Rattle.node_move.specs.Move.{MoveClaim, moveRefusal};
+ghost use Rattle.screens_assembly.specs.Rows.{RowAt};
+
+// The matrix, row by row, under the rule of a number from 1 to 5.
+#[no_mangle]
+pub extern "C" fn screens_mesh_inductance_matrix(
+    rule: u32,
+    x: &[f64],
+    y: &[f64],
+    z: &[f64],
+    t0: &[usize],
+    t1: &[usize],
+    t2: &[usize],
+    out: &mut [f64],
+) -> u32
+    ensures { λ r. ⌜ Assembled rule (meshOf (now (x .entry)) (now (y .entry)) (now (z .entry)) (now (t0 .entry)) (now (t1 .entry)) (now (t2 .entry))) (now (out .entry)) r (now (out .exit)) ⌝ }
+{
+    inductance::triangle_mesh_inductance_matrix(rule, x, y, z, t0, t1, t2, out)
+}
+
+// The matrix between source values s and target values t; it goes to the lent number, 0 on a refusal, as every value below.
+#[no_mangle]
+pub extern "C" fn screens_mesh_inductance_from_potentials(
+    matrix: &[f64],
+    s: &[f64],
+    t: &[f64],
+    value: &mut f64,
+) -> u32
+    ensures { λ r. ⌜ Answered (Energy.vectorsRefusal (List.length (now (s .entry))) (List.length (now (t .entry))) (List.length (now (matrix .entry)))) (Energy.fromPotentialVectors (now (matrix .entry)) (now (s .entry)) (now (t .entry))) r (now (value .exit)) ⌝ }
+{
+    let answer = linkage::energy::triangle_mesh_inductance_from_potential_vectors(matrix, s, t);
+    *value = answer.value;
+    answer.refusal
+}
+
+// Half of the matrix between s and itself.
+#[no_mangle]
+pub extern "C" fn screens_mesh_inductive_energy(matrix: &[f64], s: &[f64], value: &mut f64) -> u32
+    ensures { λ r. ⌜ Answered (Energy.energyRefusal (List.length (now (s .entry))) (List.length (now (matrix .entry)))) (Energy.inductiveEnergy (now (matrix .entry)) (now (s .entry))) r (now (value .exit)) ⌝ }
+{
+    let answer = linkage::energy::triangle_mesh_inductive_energy(matrix, s);
+    *value = answer.value;
+    answer.refusal
+}
+
+// The flux linkage of each node.
+#[no_mangle]
+pub extern "C" fn screens_mesh_flux_linkage(
+    map: &[f64],
+    coefficients: &[f64],
+    out: &mut [f64],
+) -> u32
+    ensures { λ r. ⌜ Linked (now (map .entry)) (now (coefficients .entry)) (now (out .entry)) r (now (out .exit)) ⌝ }
+{
+    linkage::flux::triangle_mesh_flux_linkage_from_source_coefficients(map, coefficients, out)
+}
+
+// The interaction energy of nodal values and source coefficients.
+#[no_mangle]
+pub extern "C" fn screens_mesh_interaction_energy(
+    map: &[f64],
+    values: &[f64],
+    coefficients: &[f64],
+    value: &mut f64,
+) -> u32
+    ensures { λ r. ⌜ Answered (Flux.mapRefusal (List.length (now (map .entry))) (List.length (now (coefficients .entry))) (List.length (now (values .entry)))) (Flux.interactionEnergy (now (map .entry)) (now (values .entry)) (now (coefficients .entry))) r (now (value .exit)) ⌝ }
+{
+    let answer = linkage::flux::triangle_mesh_interaction_energy_from_source_coefficients(
+        map,
+        values,
+        coefficients,
+    );
+    *value = answer.value;
+    answer.refusal
+}
+
+// The row of a node in a matrix for n nodes, as where it begins and how long it is: 0 and 0 on a refusal.
+#[no_mangle]
+pub extern "C" fn screens_matrix_row(
+    matrix: &[f64],
+    n: usize,
+    node: usize,
+    offset: &mut usize,
+    length: &mut usize,
+) -> u32
+    ensures { λ r. ⌜ RowAt (Row.matrixRowRefusal (List.length (now (matrix .entry))) n node) n node r (now (offset .exit)) (now (length .exit)) ⌝ }
+{
+    let refusal = linkage::row::triangle_mesh_matrix_row_refusal(matrix, n, node);
+    if refusal != 0 {
+        *offset = 0;
+        *length = 0;
+        return refusal;
+    }
+    *offset = node * n;
+    *length = n;
+    0
+}
+
+// The row of a node in a map for so many sources, in the same way.
+#[no_mangle]
+pub extern "C" fn screens_map_row(
+    map: &[f64],
+    sources: usize,
+    node: usize,
+    offset: &mut usize,
+    length: &mut usize,
+) -> u32
+    ensures { λ r. ⌜ RowAt (Row.mapRowRefusal (List.length (now (map .entry))) sources node) sources node r (now (offset .exit)) (now (length .exit)) ⌝ }
+{
+    let refusal = linkage::row::triangle_mesh_map_row_refusal(map, sources, node);
+    if refusal != 0 {
+        *offset = 0;
+        *length = 0;
+        return refusal;
+    }
+    *offset = node * sources;
+    *length = sources;
+    0
+}
+
+// A node moved to the place (px, py, pz), under the rule of a number: the coordinates are written, the cells of its ring's rows and
+// columns renewed, and their count goes to the lent number.
+#[no_mangle]
+pub extern "C" fn screens_move_node(
+    rule: u32,
+    x: &mut [f64],
+    y: &mut [f64],
+    z: &mut [f64],
+    t0: &[usize],
+    t1: &[usize],
+    t2: &[usize],
+    matrix: &mut [f64],
+    node: usize,
+    px: f64,
+    py: f64,
+    pz: f64,
+    count: &mut usize,
+) -> u32
+    ensures { λ r. ⌜ MoveClaim (Matrix.cell (blockUnder (quadratureRule rule))) (Matrix.matrix (blockUnder (quadratureRule rule))) (moveRefusal (quadratureRule rule) (meshOf (now (x .entry)) (now (y .entry)) (now (z .entry)) (now (t0 .entry)) (now (t1 .entry)) (now (t2 .entry))) (List.length (now (matrix .entry))) node px py pz) (meshOf (now (x .entry)) (now (y .entry)) (now (z .entry)) (now (t0 .entry)) (now (t1 .entry)) (now (t2 .entry))) (now (matrix .entry)) node px py pz r (now (count .exit)) (meshOf (now (x .exit)) (now (y .exit)) (now (z .exit)) (now (t0 .entry)) (now (t1 .entry)) (now (t2 .entry))) (now (matrix .exit)) ⌝ }
+{
+    let moved = node_move::move_node(rule, x, y, z, t0, t1, t2, matrix, node, px, py, pz);
+    *count = moved.count;
+    moved.refusal
+}

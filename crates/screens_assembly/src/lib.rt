@@ -1,0 +1,2 @@
+// Functions that the static library hands to C and Rust, as in `screens_panels`: matrix, move, energies, flux, rows.
+pub mod assembly;

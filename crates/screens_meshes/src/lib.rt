@@ -1,0 +1,4 @@
+// Functions that the static library hands to C and Rust, as in `screens_panels`: mesh test, current density, quadrature points; panel
+// file, display value.
+pub mod files;
+pub mod meshes;
