@@ -1,6 +1,7 @@
 -- boundary_element/mod.rs: the current density of nodal stream-function values on a panel, and on every panel of a mesh. Definitions only.
 use Prim.Native.Nat.{ℕ}
 use mathlib.Core.Path.{_≡_}
+use mathlib.Core.Logic.{_↔_}
 use mathlib.Core.Bool.{Bool, not, _||_}
 use mathlib.Core.List.{List, [], _∷_, _++_}
 use lib.Dec.{eqb}
@@ -9,9 +10,9 @@ use lib.Ieee.{Float}
 use Rattle.binary64.specs.Binary64.{_⊕_, _⊖_, _⊗_, _⊘_, at}
 use Rattle.math.specs.Math.{Vec, sub3}
 use Rattle.tri.specs.Mapping.{Tri, corner, area}
-use Rattle.mesh.specs.Refusal.{Check, check, first, after, nodalValues, outputLength}
+use Rattle.mesh.specs.Refusal.{Check, check, first, after, nodalValues, outputLength, zeroArea}
 use Rattle.mesh.specs.Filling.{tabulate}
-use Rattle.mesh.specs.Conditions.{Accepted}
+use Rattle.mesh.specs.Conditions.{Refused4, Accepted, MeshNumbered}
 use Rattle.mesh.specs.Mesh.{Mesh, nnode, ntri, triangleIndices, triangleNodes, lengthsDiffer, meshChecks, maxNodes, maxPanels}
 
 -- the triangle with corner 1 first, then 2 and 0
@@ -62,6 +63,20 @@ densityChecks n p values lx ly lz = check nodalValues (not (eqb values n)) ∷ c
 
 unfoldable pub densityRefusal : Mesh → ℕ → ℕ → ℕ → ℕ → ℕ
 densityRefusal m values lx ly lz = first (meshChecks maxNodes maxPanels m ++ densityChecks (nnode m) (ntri m) values lx ly lz)
+
+-- not 6: each output has one number a panel
+pub record OutputsDue (panels lx ly lz : ℕ) : Type 0 where
+  pub x : lx ≡ panels
+  pub y : ly ≡ panels
+  pub z : lz ≡ panels
+
+-- a number is the call's exactly if its condition holds and no earlier one's; nothing is tested before the mesh
+pub record DensityNumbered (m : Mesh) (values lx ly lz r : ℕ) : Type 0 where
+  pub mesh : MeshNumbered Unit maxNodes maxPanels m r
+  pub is-4 : (r ≡ zeroArea) ↔ Refused4 maxNodes maxPanels m
+  pub is-5 : (r ≡ nodalValues) ↔ (Accepted maxNodes maxPanels m × (values ≡ nnode m → ⊥))
+  pub is-6 : (r ≡ outputLength) ↔ (Accepted maxNodes maxPanels m × (values ≡ nnode m) × (OutputsDue (ntri m) lx ly lz → ⊥))
+  pub is-0 : (r ≡ 0) ↔ (Accepted maxNodes maxPanels m × (values ≡ nnode m) × OutputsDue (ntri m) lx ly lz)
 
 -- three columns with v at index i
 pub record Stored (a b c : List Float) (i : ℕ) (v : Vec) (a' b' c' : List Float) : Type 0 where

@@ -1,100 +1,91 @@
--- When the calls answer 12, without the chain of tests: exactly at a number outside 1 to 5 or, for an entry, a corner above 2.
--- By cases on the number, of which six are looked at one by one.
-use mathlib.Core.Path.{_≡_, refl}
+-- When the calls answer 12 and when 0, without the chain of tests: 12 exactly at a number outside 1 to 5 or, for an entry, a corner above 2. A call answers one of the two, so that the one
+-- condition settles both (`settled`).
+use mathlib.Core.Path.{_≡_, refl, sym, _∙_}
 use mathlib.Core.Logic.{_↔_, _⊎_, inl, inr}
 use mathlib.Core.Bool.{Bool, true, false, _||_, cond}
-use Prim.Native.Nat.{ℕ, zero, suc, _+_, _*_, _<_, _≤_}
+use Prim.Native.Nat.{ℕ, _+_, _*_, _<_, _≤_}
 use native.Mathlib.Omega.{arith}
-use borrow.Author.Tests.{ne-eqb, ltb-true, ltb-false}
+use borrow.Author.Tests.{ltb-true, ltb-false}
 use lib.Dec.{ltb}
 use lib.Ieee.{Float}
 use Rattle.binary64.specs.Binary64.{at, plusZero}
 use Rattle.tri.specs.Mapping.{Tri}
-use Rattle.tri.specs.Quadrature.{quadratureRule}
+use Rattle.tri.specs.Quadrature.{quadratureRule, NoSuchRule, isUnknown}
 use Rattle.tri.specs.declared.quadrature.QuadratureKind.{QuadratureKind}
-use Rattle.tri.specs.declared.quadrature.QuadratureKind.the-variants.{Dunavant1, Dunavant2, Dunavant3, Dunavant4, Dunavant5}
 use Rattle.tri.specs.declared.quadrature.Rule.{Rule}
 use Rattle.tri.specs.declared.quadrature.Rule.the-variants.{Known, Unknown}
+use Rattle.tri.proofs.Rules.{rule-off, rule-on}
 use Rattle.mesh.specs.Refusal.{noSuchChoice}
 use Rattle.coupling.specs.Coupling.{geometricCoupling, geometricCouplingRegular}
 use Rattle.coupling.specs.Block.{mutualInductanceBlock}
-use Rattle.coupling.specs.Calls.{NoSuchRule, refused, answerOf, blockOf, triangleGeometricCoupling, triangleGeometricCouplingRegular, triangleBasisMutualInductanceBlock, triangleBasisMutualInductance}
+use Rattle.coupling.specs.Calls.{refused, answerOf, blockOf, triangleGeometricCoupling, triangleGeometricCouplingRegular, triangleBasisMutualInductanceBlock, triangleBasisMutualInductance, ChoiceNumbered, NoSuchEntry}
 
--- ---- the rule's number
-pub rule-known : (n : ℕ) → NoSuchRule n ⊎ ((kind : QuadratureKind) × (quadratureRule n ≡ Known kind))
-unfolding quadratureRule
-rule-known zero = inl (inl refl)
-rule-known (suc zero) = inr (Dunavant1, refl)
-rule-known (suc (suc zero)) = inr (Dunavant2, refl)
-rule-known (suc (suc (suc zero))) = inr (Dunavant3, refl)
-rule-known (suc (suc (suc (suc zero)))) = inr (Dunavant4, refl)
-rule-known (suc (suc (suc (suc (suc zero))))) = inr (Dunavant5, refl)
-rule-known (suc (suc (suc (suc (suc (suc n)))))) = inl (inr (omega arith))
+-- ---- a test that picks 12 or 0
+abbrev pick : Bool → ℕ
+pick t = cond t noSuchChoice 0
 
-pub rule-unknown : (n : ℕ) → NoSuchRule n → quadratureRule n ≡ Unknown
-unfolding quadratureRule
-rule-unknown n (inl e) = rw e
-rule-unknown n (inr l) = rw (
-  ne-eqb n 1 (λ e. omega (arith, l, e)),
-  ne-eqb n 2 (λ e. omega (arith, l, e)),
-  ne-eqb n 3 (λ e. omega (arith, l, e)),
-  ne-eqb n 4 (λ e. omega (arith, l, e)),
-  ne-eqb n 5 (λ e. omega (arith, l, e)),
-)
+settled : (t : Bool) (P : Type 0) → (t ≡ true) ↔ P → (t ≡ false) ↔ (P → ⊥) → ChoiceNumbered P (pick t)
+settled t P on off = record { is-12 = (λ e. on .0 (told t e), λ h. rw (on .1 h)); is-0 = (λ e. off .0 (left t e), λ h. rw (off .1 h)) }
+  where
+    told : (t : Bool) → pick t ≡ noSuchChoice → t ≡ true
+    told true e = refl
+    told false e = absurd (omega (arith, e))
+
+    left : (t : Bool) → pick t ≡ 0 → t ≡ false
+    left true e = absurd (omega (arith, e))
+    left false e = refl
 
 -- ---- the number of an answer
-abbrev numberOf : Rule → ℕ
-numberOf (Known kind) = 0
-numberOf Unknown = noSuchChoice
-
-number-exactly : (n : ℕ) → (numberOf (quadratureRule n) ≡ noSuchChoice) ↔ NoSuchRule n
-number-exactly n = (λ e. go (rule-known n) e, λ h. rw (rule-unknown n h))
-  where
-    go : NoSuchRule n ⊎ ((kind : QuadratureKind) × (quadratureRule n ≡ Known kind)) → numberOf (quadratureRule n) ≡ noSuchChoice → NoSuchRule n
-    go (inl h) e = h
-    go (inr k) e = let z : _≡_ {A = ℕ} 0 12 = rw (k .1) at e in absurd (omega (arith, z))
-
-answer-number : (r : Rule) (f : QuadratureKind → Float) → answerOf r f .refusal ≡ numberOf r
+answer-number : (r : Rule) (f : QuadratureKind → Float) → answerOf r f .refusal ≡ pick (isUnknown r)
 unfolding answerOf refused
 answer-number (Known kind) f = refl
 answer-number Unknown f = refl
 
-block-number : (r : Rule) (s t : Tri) → blockOf r s t .refusal ≡ numberOf r
+block-number : (r : Rule) (s t : Tri) → blockOf r s t .refusal ≡ pick (isUnknown r)
 unfolding blockOf
 block-number (Known kind) s t = refl
 block-number Unknown s t = refl
 
+by-rule : (rule : ℕ) → ChoiceNumbered (NoSuchRule rule) (pick (isUnknown (quadratureRule rule)))
+by-rule rule = settled (isUnknown (quadratureRule rule)) (NoSuchRule rule) (rule-on rule) (rule-off rule)
+
 -- ---- the calls
-pub coupling-refused : (rule : ℕ) (s t : Tri) → (triangleGeometricCoupling rule s t .refusal ≡ noSuchChoice) ↔ NoSuchRule rule
+pub coupling-numbered : (rule : ℕ) (s t : Tri) → ChoiceNumbered (NoSuchRule rule) (triangleGeometricCoupling rule s t .refusal)
 unfolding triangleGeometricCoupling
-coupling-refused rule s t = rw (answer-number (quadratureRule rule) (λ kind. geometricCoupling kind s t)) (number-exactly rule)
+coupling-numbered rule s t = rw (answer-number (quadratureRule rule) (λ kind. geometricCoupling kind s t)) (by-rule rule)
 
-pub regular-refused : (rule : ℕ) (s t : Tri) → (triangleGeometricCouplingRegular rule s t .refusal ≡ noSuchChoice) ↔ NoSuchRule rule
+pub regular-numbered : (rule : ℕ) (s t : Tri) → ChoiceNumbered (NoSuchRule rule) (triangleGeometricCouplingRegular rule s t .refusal)
 unfolding triangleGeometricCouplingRegular
-regular-refused rule s t = rw (answer-number (quadratureRule rule) (λ kind. geometricCouplingRegular kind s t)) (number-exactly rule)
+regular-numbered rule s t = rw (answer-number (quadratureRule rule) (λ kind. geometricCouplingRegular kind s t)) (by-rule rule)
 
-pub block-refused : (rule : ℕ) (s t : Tri) → (triangleBasisMutualInductanceBlock rule s t .refusal ≡ noSuchChoice) ↔ NoSuchRule rule
+pub block-numbered : (rule : ℕ) (s t : Tri) → ChoiceNumbered (NoSuchRule rule) (triangleBasisMutualInductanceBlock rule s t .refusal)
 unfolding triangleBasisMutualInductanceBlock
-block-refused rule s t = rw (block-number (quadratureRule rule) s t) (number-exactly rule)
+block-numbered rule s t = rw (block-number (quadratureRule rule) s t) (by-rule rule)
 
-pub entry-refused : (rule : ℕ) (s : Tri) (i : ℕ) (t : Tri) (j : ℕ)
-    → (triangleBasisMutualInductance rule s i t j .refusal ≡ noSuchChoice) ↔ ((2 < i) ⊎ ((2 < j) ⊎ NoSuchRule rule))
+pub entry-numbered : (rule : ℕ) (s : Tri) (i : ℕ) (t : Tri) (j : ℕ) → ChoiceNumbered (NoSuchEntry rule i j) (triangleBasisMutualInductance rule s i t j .refusal)
 unfolding triangleBasisMutualInductance refused
-entry-refused rule s i t j = go (ltb 2 i) refl (ltb 2 j) refl
+entry-numbered rule s i t j = go (ltb 2 i) refl (ltb 2 j) refl
   where
     f : QuadratureKind → Float
     f kind = at (mutualInductanceBlock kind s t) (i * 3 + j)
 
-    last : ((answerOf (quadratureRule rule) f) .refusal ≡ noSuchChoice) ↔ NoSuchRule rule
-    last = rw (answer-number (quadratureRule rule) f) (number-exactly rule)
+    above : NoSuchEntry rule i j → ChoiceNumbered (NoSuchEntry rule i j) noSuchChoice
+    above h = record { is-12 = (λ _. h, λ _. refl); is-0 = (λ e. absurd (omega (arith, e)), λ n. absurd (n h)) }
 
-    past : i ≤ 2 → j ≤ 2 → (2 < i) ⊎ ((2 < j) ⊎ NoSuchRule rule) → NoSuchRule rule
+    past : i ≤ 2 → j ≤ 2 → NoSuchEntry rule i j → NoSuchRule rule
     past p q (inl l) = absurd (omega (arith, p, l))
     past p q (inr (inl l)) = absurd (omega (arith, q, l))
     past p q (inr (inr h)) = h
 
     go : (b : Bool) → ltb 2 i ≡ b → (c : Bool) → ltb 2 j ≡ c
-        → ((cond (b || c) (record { refusal = noSuchChoice; value = plusZero }) (answerOf (quadratureRule rule) f)) .refusal ≡ noSuchChoice) ↔ ((2 < i) ⊎ ((2 < j) ⊎ NoSuchRule rule))
-    go true p c q = (λ e. inl (ltb-true 2 i p), λ h. refl)
-    go false p true q = (λ e. inr (inl (ltb-true 2 j q)), λ h. refl)
-    go false p false q = (λ e. inr (inr (last .0 e)), λ h. last .1 (past (ltb-false 2 i p) (ltb-false 2 j q) h))
+        → ChoiceNumbered (NoSuchEntry rule i j) ((cond (b || c) (record { refusal = noSuchChoice; value = plusZero }) (answerOf (quadratureRule rule) f)) .refusal)
+    go true p c q = above (inl (ltb-true 2 i p))
+    go false p true q = above (inr (inl (ltb-true 2 j q)))
+    go false p false q =
+        let w = by-rule rule in
+        let back = past (ltb-false 2 i p) (ltb-false 2 j q) in
+        rw (answer-number (quadratureRule rule) f)
+        (record {
+          is-12 = (λ e. inr (inr (w .is-12 .0 e)), λ h. w .is-12 .1 (back h));
+          is-0 = (λ e h. w .is-0 .0 e (back h), λ n. w .is-0 .1 (λ h. n (inr (inr h))));
+        })

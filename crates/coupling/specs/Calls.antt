@@ -1,6 +1,6 @@
 -- Document 01's calls on two triangles, the rule by its number: any number but 1 to 5, and a corner above 2, is refused with 12.
 use mathlib.Core.Path.{_≡_}
-use mathlib.Core.Logic.{_⊎_}
+use mathlib.Core.Logic.{_↔_, _⊎_}
 use Prim.Native.Nat.{ℕ, _+_, _*_, _<_}
 use mathlib.Core.Bool.{cond, _||_}
 use mathlib.Core.List.{List, [], _∷_}
@@ -8,7 +8,7 @@ use lib.Dec.{ltb}
 use lib.Ieee.{Float}
 use Rattle.binary64.specs.Binary64.{at, plusZero}
 use Rattle.tri.specs.Mapping.{Tri}
-use Rattle.tri.specs.Quadrature.{quadratureRule}
+use Rattle.tri.specs.Quadrature.{quadratureRule, NoSuchRule}
 use Rattle.tri.specs.declared.quadrature.QuadratureKind.{QuadratureKind}
 use Rattle.tri.specs.declared.quadrature.Rule.{Rule}
 use Rattle.tri.specs.declared.quadrature.Rule.the-variants.{Known, Unknown}
@@ -20,10 +20,6 @@ use Rattle.coupling.specs.Block.{mutualInductanceBlock}
 
 abbrev pub done : Float → Answer
 done v = record { refusal = 0; value = v }
-
--- a number that is no rule's
-abbrev pub NoSuchRule : ℕ → Type 0
-NoSuchRule rule = (rule ≡ 0) ⊎ (5 < rule)
 
 -- no such choice: 12 and +0
 unfoldable pub refused : Answer
@@ -55,3 +51,13 @@ unfoldable pub triangleBasisMutualInductance : ℕ → Tri → ℕ → Tri → �
 triangleBasisMutualInductance rule source i target j =
     cond (ltb 2 i || ltb 2 j) refused
     (answerOf (quadratureRule rule) (λ kind. at (mutualInductanceBlock kind source target) (i * 3 + j)))
+
+-- ---- the numbers
+-- the number of a call that refuses a choice and nothing else: 12 exactly if there is no such choice, 0 exactly if there is
+pub record ChoiceNumbered (NoSuchChoice : Type 0) (r : ℕ) : Type 0 where
+  pub is-12 : (r ≡ noSuchChoice) ↔ NoSuchChoice
+  pub is-0 : (r ≡ 0) ↔ (NoSuchChoice → ⊥)
+
+-- an entry's choices: two corners and the rule
+abbrev pub NoSuchEntry : ℕ → ℕ → ℕ → Type 0
+NoSuchEntry rule i j = (2 < i) ⊎ ((2 < j) ⊎ NoSuchRule rule)

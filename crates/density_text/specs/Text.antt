@@ -12,6 +12,7 @@ use Rattle.mesh.specs.Filling.{tabulate}
 use Rattle.boundary_element.specs.CurrentDensity.{panelDensity}
 use Rattle.panel_file.specs.LittleEndian.{rowsFrom}
 use Rattle.panel_file.specs.PanelFile.{nodeCount, panelCount, nodalValue, decode, fileRefusal}
+use Rattle.panel_file.specs.Conditions.{FileTestNumbered}
 
 -- the program's limits
 abbrev pub maxNodes : ℕ
@@ -23,6 +24,10 @@ maxPanels = 128
 -- the number of an input: a panel file with one f64 a node behind it
 abbrev pub inputRefusal : List ℕ → ℕ
 inputRefusal b = fileRefusal maxNodes maxPanels 1 b
+
+-- a number is the program's exactly if its condition holds and no earlier one's; 0 exactly if the input is accepted
+abbrev pub InputNumbered : List ℕ → ℕ → Type 0
+InputNumbered b r = FileTestNumbered maxNodes maxPanels 1 b r
 
 -- ---- numbers as text
 -- a number below 1,000 in decimal

@@ -1,8 +1,9 @@
 -- Document 01's display value: whole nanohenries, the exact value × 10^9 rounded to nearest, over whole numbers. Definitions only.
 use mathlib.Core.Path.{_≡_}
+use mathlib.Core.Logic.{_↔_}
 use mathlib.Core.Bool.{Bool, true, cond}
 use mathlib.Core.List.{[], _∷_}
-use Prim.Native.Nat.{ℕ, suc, _+_, _*_, _/_, _%_, _^_}
+use Prim.Native.Nat.{ℕ, suc, _+_, _*_, _/_, _%_, _^_, _≤_}
 use lib.Dec.{ltb, eqb}
 use lib.IntN.{ℤ, pos, negℤ}
 use lib.Ieee.{Float, nan, inf, fin, up, down}
@@ -47,6 +48,17 @@ shown (fin s m e) = withSign s (nanohenries (m * up e) (down e))
 pub record Displayed (x : Float) (refusal : ℕ) (value : ℤ) : Type 0 where
   pub number : refusal ≡ displayRefusal x
   pub figure : value ≡ cond (eqb refusal 0) (shown x) (pos 0)
+
+-- not 16: finite, and the rounded size at most the largest
+abbrev pub InRange : Float → Type 0
+InRange nan = ⊥
+InRange (inf s) = ⊥
+InRange (fin s m e) = nanohenries (m * up e) (down e) ≤ largest
+
+-- a number is the call's exactly if its condition holds
+pub record DisplayNumbered (x : Float) (r : ℕ) : Type 0 where
+  pub is-16 : (r ≡ displayRange) ↔ (InRange x → ⊥)
+  pub is-0 : (r ≡ 0) ↔ InRange x
 
 -- ---- the product with 10^9, which has more digits than a word
 -- num in units of 2^31, the last digit odd where something below 2^32 is left

@@ -1,28 +1,22 @@
 -- The call that assembles the matrix: its number, and what it leaves. Definitions only.
 use mathlib.Core.Path.{_≡_}
 use mathlib.Core.Logic.{_↔_}
-use mathlib.Core.Bool.{Bool, true, false, not}
+use mathlib.Core.Bool.{not}
 use mathlib.Core.List.{List, [], _∷_, _++_}
 use Prim.Native.Nat.{ℕ, _*_}
 use lib.Dec.{eqb}
 use lib.ListN.{length}
 use lib.Ieee.{Float}
-use Rattle.tri.specs.Quadrature.{quadratureRule}
+use Rattle.tri.specs.Quadrature.{quadratureRule, NoSuchRule, isUnknown}
 use Rattle.tri.specs.declared.quadrature.QuadratureKind.{QuadratureKind}
 use Rattle.tri.specs.declared.quadrature.Rule.{Rule}
 use Rattle.tri.specs.declared.quadrature.Rule.the-variants.{Known, Unknown}
-use Rattle.mesh.specs.Refusal.{Check, check, first, after, noSuchChoice, outputLength}
-use Rattle.mesh.specs.Mesh.{Mesh, nnode, meshChecks, meshRefusal, maxNodes, maxPanels}
-use Rattle.mesh.specs.Conditions.{Accepted}
+use Rattle.mesh.specs.Refusal.{Check, check, first, after, noSuchChoice, outputLength, zeroArea}
+use Rattle.mesh.specs.Mesh.{Mesh, nnode, meshChecks, maxNodes, maxPanels}
+use Rattle.mesh.specs.Conditions.{Refused4, Accepted, MeshNumbered}
 use Rattle.coupling.specs.Block.{mutualInductanceBlock}
-use Rattle.coupling.specs.Calls.{NoSuchRule}
 use Rattle.pair_nest.specs.Additions.{Block}
 use Rattle.inductance.specs.Matrix.{matrix}
-
--- 12
-abbrev pub isUnknown : Rule → Bool
-isUnknown (Known kind) = false
-isUnknown Unknown = true
 
 -- the block under a rule; without a rule the call is refused and no block is asked for
 abbrev pub blockUnder : Rule → Block
@@ -40,10 +34,11 @@ sizedRefusal m size = first (meshChecks maxNodes maxPanels m ++ sizeChecks (nnod
 unfoldable pub matrixRefusal : Rule → Mesh → ℕ → ℕ
 matrixRefusal rule m size = first (check noSuchChoice (isUnknown rule) ∷ meshChecks maxNodes maxPanels m ++ sizeChecks (nnode m) size)
 
--- a number is the call's exactly if its condition holds and no earlier one's; the mesh's numbers have theirs in the mesh's own `Numbered`
+-- a number is the call's exactly if its condition holds and no earlier one's
 pub record Numbered (number : ℕ) (m : Mesh) (size r : ℕ) : Type 0 where
   pub is-12 : (r ≡ noSuchChoice) ↔ NoSuchRule number
-  pub of-mesh : (NoSuchRule number → ⊥) → (meshRefusal maxNodes maxPanels m ≡ 0 → ⊥) → r ≡ meshRefusal maxNodes maxPanels m
+  pub mesh : MeshNumbered (NoSuchRule number → ⊥) maxNodes maxPanels m r
+  pub is-4 : (r ≡ zeroArea) ↔ ((NoSuchRule number → ⊥) × Refused4 maxNodes maxPanels m)
   pub is-6 : (r ≡ outputLength) ↔ ((NoSuchRule number → ⊥) × Accepted maxNodes maxPanels m × (size ≡ nnode m * nnode m → ⊥))
   pub is-0 : (r ≡ 0) ↔ ((NoSuchRule number → ⊥) × Accepted maxNodes maxPanels m × (size ≡ nnode m * nnode m))
 

@@ -55,14 +55,37 @@ pub record Accepted (maxNodes maxPanels : ℕ) (m : Mesh) : Type 0 where
   pub none-missing : NoneMissing m
   pub no-zero-area : NoZeroArea m
 
+-- ---- each number's condition, and no earlier one's
+abbrev pub Refused1 : Mesh → Type 0
+Refused1 m = NodeColumnsAlike m → ⊥
+
+abbrev pub Refused2 : Mesh → Type 0
+Refused2 m = NodeColumnsAlike m × (PanelColumnsAlike m → ⊥)
+
+abbrev pub Refused11 : ℕ → ℕ → Mesh → Type 0
+Refused11 maxNodes maxPanels m = NodeColumnsAlike m × PanelColumnsAlike m × (WithinLimits maxNodes maxPanels m → ⊥)
+
+abbrev pub Refused3 : ℕ → ℕ → Mesh → Type 0
+Refused3 maxNodes maxPanels m = NodeColumnsAlike m × PanelColumnsAlike m × WithinLimits maxNodes maxPanels m × MissingNode m
+
+abbrev pub Refused4 : ℕ → ℕ → Mesh → Type 0
+Refused4 maxNodes maxPanels m = NodeColumnsAlike m × PanelColumnsAlike m × WithinLimits maxNodes maxPanels m × NoneMissing m × ZeroArea m
+
 -- a number is the mesh's exactly if its condition holds and no earlier one does
 pub record Numbered (maxNodes maxPanels : ℕ) (m : Mesh) (r : ℕ) : Type 0 where
-  pub is-1 : (r ≡ 1) ↔ (NodeColumnsAlike m → ⊥)
-  pub is-2 : (r ≡ 2) ↔ (NodeColumnsAlike m × (PanelColumnsAlike m → ⊥))
-  pub is-11 : (r ≡ 11) ↔ (NodeColumnsAlike m × PanelColumnsAlike m × (WithinLimits maxNodes maxPanels m → ⊥))
-  pub is-3 : (r ≡ 3) ↔ (NodeColumnsAlike m × PanelColumnsAlike m × WithinLimits maxNodes maxPanels m × MissingNode m)
-  pub is-4 : (r ≡ 4) ↔ (NodeColumnsAlike m × PanelColumnsAlike m × WithinLimits maxNodes maxPanels m × NoneMissing m × ZeroArea m)
+  pub is-1 : (r ≡ 1) ↔ Refused1 m
+  pub is-2 : (r ≡ 2) ↔ Refused2 m
+  pub is-11 : (r ≡ 11) ↔ Refused11 maxNodes maxPanels m
+  pub is-3 : (r ≡ 3) ↔ Refused3 maxNodes maxPanels m
+  pub is-4 : (r ≡ 4) ↔ Refused4 maxNodes maxPanels m
   pub is-0 : (r ≡ 0) ↔ Accepted maxNodes maxPanels m
+
+-- the mesh's numbers of a call that tests something more, Before being what lets it come to its mesh. 4 is not among them: a move has it twice.
+pub record MeshNumbered (Before : Type 0) (maxNodes maxPanels : ℕ) (m : Mesh) (r : ℕ) : Type 0 where
+  pub is-1 : (r ≡ 1) ↔ (Before × Refused1 m)
+  pub is-2 : (r ≡ 2) ↔ (Before × Refused2 m)
+  pub is-11 : (r ≡ 11) ↔ (Before × Refused11 maxNodes maxPanels m)
+  pub is-3 : (r ≡ 3) ↔ (Before × Refused3 maxNodes maxPanels m)
 
 -- what the mesh test answers
 pub record Tested (m : Mesh) (refusal poor : ℕ) : Type 0 where

@@ -1,8 +1,8 @@
 -- Document 01's table of numbers, and how a call's answer is put together: a list of checks in document 01's order, of which the first that applies gives its number, and 0 if none does.
 -- The laws say for any such list, whatever its length, when the answer is one of its numbers and when it is 0. Assumes nothing.
 use mathlib.Core.Path.{_≡_, refl, sym, subst}
-use mathlib.Core.Logic.{_↔_}
-use mathlib.Core.Bool.{Bool, true, false, not, _&&_, cond}
+use mathlib.Core.Logic.{_↔_, _⊎_, inl, inr}
+use mathlib.Core.Bool.{Bool, true, false, not, _&&_, cond, true≢false}
 use mathlib.Core.List.{List, [], _∷_, _++_}
 use Prim.Native.Nat.{ℕ}
 use borrow.Author.Tests.{ne-eqb}
@@ -105,7 +105,7 @@ none-applies (c ∷ cs) n =
     (λ e. (o e .0, w .0 (o e .1)), λ h. rw (h .0) (w .1 (h .1)))
 
 -- an answer that no check has is 0
-lacking : (k : ℕ) (cs : List Check) → T (lacks k cs) → first cs ≡ k → k ≡ 0
+pub lacking : (k : ℕ) (cs : List Check) → T (lacks k cs) → first cs ≡ k → k ≡ 0
 unfolding first
 lacking k [] n e = sym e
 lacking k (c ∷ cs) n e = lacking k cs (and-r (not (eqb (c .number) k)) (lacks k cs) n) (other c cs k (and-l (not (eqb (c .number) k)) (lacks k cs) n) e .1)
@@ -124,7 +124,36 @@ applies-first (c ∷ cs) k t after z n n' =
     let o = other c (cs ++ check k t ∷ after) k (and-l (not (eqb (c .number) k)) (lacks k cs) n) in
     (λ e. let v = w .0 (o e .1) in ((o e .0, v .0), v .1), λ h. rw (h .0 .0) (w .1 (h .0 .1, h .1)))
 
--- ---- checks in two parts: the second part decides once the first is clear
+-- ---- checks in two parts
+-- the answer is k exactly if the first part gives it, or is clear and the second part gives it; k may stand in both
+pub in-parts : (cs ds : List Check) (k : ℕ) → T (not (eqb k 0)) → (first (cs ++ ds) ≡ k) ↔ ((first cs ≡ k) ⊎ (Clear cs × (first ds ≡ k)))
+unfolding first
+in-parts [] ds k z = (λ e. inr (tt, e), back)
+  where
+    back : (0 ≡ k) ⊎ (Clear [] × (first ds ≡ k)) → first ds ≡ k
+    back (inl e) = absurd (T-not (eqb k 0) z (subst (λ (x : ℕ). T (eqb k x)) (sym e) (eqb-refl k)))
+    back (inr h) = h .1
+in-parts (c ∷ cs) ds k z = go (c .applies) (in-parts cs ds k z)
+  where
+    go : (t : Bool)
+        → ((first (cs ++ ds) ≡ k) ↔ ((first cs ≡ k) ⊎ (Clear cs × (first ds ≡ k))))
+        → (cond t (c .number) (first (cs ++ ds)) ≡ k) ↔ ((cond t (c .number) (first cs) ≡ k) ⊎ (((t ≡ false) × Clear cs) × (first ds ≡ k)))
+    go true w = (inl, back)
+      where
+        back : (c .number ≡ k) ⊎ (((true ≡ false) × Clear cs) × (first ds ≡ k)) → c .number ≡ k
+        back (inl e) = e
+        back (inr h) = absurd (true≢false (h .0 .0))
+    go false w = (λ e. on (w .0 e), λ h. w .1 (back h))
+      where
+        on : (first cs ≡ k) ⊎ (Clear cs × (first ds ≡ k)) → (first cs ≡ k) ⊎ (((false ≡ false) × Clear cs) × (first ds ≡ k))
+        on (inl e) = inl e
+        on (inr h) = inr ((refl, h .0), h .1)
+
+        back : (first cs ≡ k) ⊎ (((false ≡ false) × Clear cs) × (first ds ≡ k)) → (first cs ≡ k) ⊎ (Clear cs × (first ds ≡ k))
+        back (inl e) = inl e
+        back (inr h) = inr (h .0 .1, h .1)
+
+-- the second part decides once the first is clear
 pub first-passed : (cs ds : List Check) → Clear cs → first (cs ++ ds) ≡ first ds
 unfolding first
 first-passed [] ds h = refl

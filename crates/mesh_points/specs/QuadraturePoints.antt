@@ -1,6 +1,7 @@
 -- boundary_element/mod.rs: the quadrature points of every panel and their area weights, panel after panel. Definitions only.
 use Prim.Native.Nat.{ℕ, _*_, _/_, _%_, _≤_}
 use mathlib.Core.Path.{_≡_}
+use mathlib.Core.Logic.{_↔_}
 use mathlib.Core.Bool.{Bool, not, _||_}
 use mathlib.Core.List.{List, [], _∷_, _++_}
 use lib.Dec.{eqb}
@@ -9,13 +10,13 @@ use lib.Ieee.{Float}
 use Rattle.binary64.specs.Binary64.{_⊗_, at}
 use Rattle.math.specs.Math.{Vec}
 use Rattle.tri.specs.Mapping.{Tri, area, mapPoint}
-use Rattle.tri.specs.Quadrature.{quadratureRow, quadratureCount}
+use Rattle.tri.specs.Quadrature.{quadratureRow, quadratureCount, quadratureRule, NoSuchRule}
 use Rattle.tri.specs.declared.quadrature.QuadratureKind.{QuadratureKind}
 use Rattle.tri.specs.declared.quadrature.Rule.{Rule}
 use Rattle.tri.specs.declared.quadrature.Rule.the-variants.{Known, Unknown}
-use Rattle.mesh.specs.Refusal.{Check, check, first, after, outputLength, noSuchChoice}
+use Rattle.mesh.specs.Refusal.{Check, check, first, after, outputLength, noSuchChoice, zeroArea}
 use Rattle.mesh.specs.Filling.{tabulate, run}
-use Rattle.mesh.specs.Conditions.{Accepted}
+use Rattle.mesh.specs.Conditions.{Refused4, Accepted, MeshNumbered}
 use Rattle.mesh.specs.Mesh.{Mesh, ntri, triangleNodes, meshChecks, maxNodes, maxPanels}
 
 -- point k of a rule on a triangle, and its weight
@@ -50,6 +51,31 @@ abbrev pub ruleRefusal : Rule → Mesh → ℕ → ℕ → ℕ → ℕ → ℕ
 ruleRefusal (Known kind) m lx ly lz lw = pointsRefusal kind m lx ly lz lw
 ruleRefusal Unknown m lx ly lz lw = noSuchChoice
 
+-- ---- the numbers by their conditions
+-- how many points a panel has; none without a rule
+abbrev pub pointsIn : Rule → ℕ
+pointsIn (Known kind) = quadratureCount kind
+pointsIn Unknown = 0
+
+-- not 6: each output has one number a point
+pub record PointOutputsDue (points lx ly lz lw : ℕ) : Type 0 where
+  pub x : lx ≡ points
+  pub y : ly ≡ points
+  pub z : lz ≡ points
+  pub weights : lw ≡ points
+
+abbrev pub OutputsDue : ℕ → Mesh → ℕ → ℕ → ℕ → ℕ → Type 0
+OutputsDue number m lx ly lz lw = PointOutputsDue (ntri m * pointsIn (quadratureRule number)) lx ly lz lw
+
+-- a number is the call's exactly if its condition holds and no earlier one's
+pub record PointsNumbered (number : ℕ) (m : Mesh) (lx ly lz lw r : ℕ) : Type 0 where
+  pub is-12 : (r ≡ noSuchChoice) ↔ NoSuchRule number
+  pub mesh : MeshNumbered (NoSuchRule number → ⊥) maxNodes maxPanels m r
+  pub is-4 : (r ≡ zeroArea) ↔ ((NoSuchRule number → ⊥) × Refused4 maxNodes maxPanels m)
+  pub is-6 : (r ≡ outputLength) ↔ ((NoSuchRule number → ⊥) × Accepted maxNodes maxPanels m × (OutputsDue number m lx ly lz lw → ⊥))
+  pub is-0 : (r ≡ 0) ↔ ((NoSuchRule number → ⊥) × Accepted maxNodes maxPanels m × OutputsDue number m lx ly lz lw)
+
+-- ---- what the call leaves
 -- what is due under a rule; with no such rule nothing is written
 abbrev pub pointsDue : Rule → Mesh → ℕ → List Float
 pointsDue (Known kind) m c = meshPoints kind m c

@@ -13,13 +13,13 @@ pub record Step : Type 0 where
   pub y : Float
   pub z : Float
 
-module _ (cellOf : Mesh → ℕ → ℕ → Float) (matrixOf : Mesh → List Float) where
+module _ (Choice : Type 0) (cellOf : Mesh → ℕ → ℕ → Float) (matrixOf : Mesh → List Float) where
   -- calls that answered 0 one after the other, each on what the call before it left
   abbrev pub Run : List Step → Mesh → List Float → Mesh → List Float → Type 0
   Run [] m old m′ new = (m′ ≡ m) × (new ≡ old)
   Run (s ∷ ss) m old m′ new =
       (m₁ : Mesh) × (old₁ : List Float) × (refusal : ℕ) × (count : ℕ)
-      × MoveClaim cellOf matrixOf refusal m old (s .node) (s .x) (s .y) (s .z) 0 count m₁ old₁
+      × MoveClaim Choice cellOf matrixOf refusal m old (s .node) (s .x) (s .y) (s .z) 0 count m₁ old₁
       × Run ss m₁ old₁ m′ new
 
   pub run-fresh : (ss : List Step) (m : Mesh) (old : List Float) (m′ : Mesh) (new : List Float) → Run ss m old m′ new → old ≡ matrixOf m → new ≡ matrixOf m′

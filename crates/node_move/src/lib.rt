@@ -1,13 +1,10 @@
 // The move of one node: its place is written and the cells of its ring's rows and columns are worked
 // out anew, so that a fresh matrix is left fresh. Every test is made before anything is written.
 ghost use mathlib.Core.Path.{_≡_};
-ghost use lib.ListN.{length};
-ghost use Rattle.tri.specs.Quadrature.{quadratureRule};
 ghost use Rattle.mesh.specs.Mesh.{meshOf};
 ghost use Rattle.coupling.specs.Block.{mutualInductanceBlock};
-ghost use Rattle.inductance.specs.Matrix.{cell, matrix};
-ghost use Rattle.inductance.specs.Assembly.{blockUnder};
-ghost use Rattle.node_move.specs.Move.{placeRefusal, moveRefusal, Done, MoveClaim, MoveReady};
+ghost use Rattle.inductance.specs.Matrix.{cell};
+ghost use Rattle.node_move.specs.Move.{Done, MovedBy, MovedUnder, MoveReady};
 use tri::quadrature::QuadratureKind;
 use tri::quadrature::Rule;
 
@@ -61,7 +58,7 @@ fn move_under(
     py: f64,
     pz: f64,
 ) -> Moved
-    ensures { λ r. ⌜ MoveClaim (cell (mutualInductanceBlock kind)) (matrix (mutualInductanceBlock kind)) (placeRefusal (meshOf (now (x .entry)) (now (y .entry)) (now (z .entry)) (now (t0 .entry)) (now (t1 .entry)) (now (t2 .entry))) (length (now (out .entry))) v px py pz) (meshOf (now (x .entry)) (now (y .entry)) (now (z .entry)) (now (t0 .entry)) (now (t1 .entry)) (now (t2 .entry))) (now (out .entry)) v px py pz (r .refusal) (r .count) (meshOf (now (x .exit)) (now (y .exit)) (now (z .exit)) (now (t0 .entry)) (now (t1 .entry)) (now (t2 .entry))) (now (out .exit)) ⌝ }
+    ensures { λ r. ⌜ MovedUnder kind (meshOf (now (x .entry)) (now (y .entry)) (now (z .entry)) (now (t0 .entry)) (now (t1 .entry)) (now (t2 .entry))) (now (out .entry)) v px py pz (r .refusal) (r .count) (meshOf (now (x .exit)) (now (y .exit)) (now (z .exit)) (now (t0 .entry)) (now (t1 .entry)) (now (t2 .entry))) (now (out .exit)) ⌝ }
 {
     let refusal = node_ring::place_refusal(x, y, z, t0, t1, t2, out.len(), v, px, py, pz);
     if refusal != 0 {
@@ -92,7 +89,7 @@ pub fn move_node(
     py: f64,
     pz: f64,
 ) -> Moved
-    ensures { λ r. ⌜ MoveClaim (cell (blockUnder (quadratureRule rule))) (matrix (blockUnder (quadratureRule rule))) (moveRefusal (quadratureRule rule) (meshOf (now (x .entry)) (now (y .entry)) (now (z .entry)) (now (t0 .entry)) (now (t1 .entry)) (now (t2 .entry))) (length (now (out .entry))) v px py pz) (meshOf (now (x .entry)) (now (y .entry)) (now (z .entry)) (now (t0 .entry)) (now (t1 .entry)) (now (t2 .entry))) (now (out .entry)) v px py pz (r .refusal) (r .count) (meshOf (now (x .exit)) (now (y .exit)) (now (z .exit)) (now (t0 .entry)) (now (t1 .entry)) (now (t2 .entry))) (now (out .exit)) ⌝ }
+    ensures { λ r. ⌜ MovedBy rule (meshOf (now (x .entry)) (now (y .entry)) (now (z .entry)) (now (t0 .entry)) (now (t1 .entry)) (now (t2 .entry))) (now (out .entry)) v px py pz (r .refusal) (r .count) (meshOf (now (x .exit)) (now (y .exit)) (now (z .exit)) (now (t0 .entry)) (now (t1 .entry)) (now (t2 .entry))) (now (out .exit)) ⌝ }
 {
     match tri::quadrature::quadrature_rule(rule) {
         Rule::Known(kind) => move_under(kind, x, y, z, t0, t1, t2, out, v, px, py, pz),

@@ -11,7 +11,7 @@ use Rattle.mesh.specs.Filling.{tabulate-length}
 use Rattle.mesh.specs.Mesh.{someMissesNode, someZeroArea, passesLimits}
 use Rattle.mesh.proofs.Refusals.{on, missing-off, missing-on, area-off, area-on}
 use Rattle.panel_file.specs.PanelFile.{nodeCount, panelCount, coordinate, index, decode, marksDiffer, lengthDiffers, fileChecks, fileRefusal, Lengths, outputsDiffer, readRefusal}
-use Rattle.panel_file.specs.Conditions.{AcceptedFile, FileNumbered, ReadNumbered}
+use Rattle.panel_file.specs.Conditions.{AcceptedFile, FileNumbered, FileTestNumbered, ReadNumbered}
 use Rattle.panel_file.proofs.Decoded.{nodes, panels}
 use Rattle.panel_file.proofs.Accepted.{marks-off, limits-off, due-off, outputs-off}
 
@@ -90,6 +90,11 @@ module _ (n p extra : ℕ) (b : List ℕ) where
   file-accepted =
       let w = none-applies (c14 ∷ c11 ∷ c15 ∷ c3 ∷ c4 ∷ []) tt in
       (λ e. accepted (w .0 e), λ h. w .1 (cleared h))
+
+-- a call that tests the file and nothing more: a list with nothing behind it
+pub file-test-numbered : (n p extra : ℕ) (b : List ℕ) → FileTestNumbered n p extra b (fileRefusal n p extra b)
+unfolding fileRefusal fileChecks
+file-test-numbered n p extra b = record { file = file-numbered n p extra b [] tt tt tt tt tt; is-0 = file-accepted n p extra b }
 
 pub read-numbered : (n p : ℕ) (b : List ℕ) (l : Lengths) → ReadNumbered n p b l (readRefusal n p b l)
 unfolding readRefusal fileChecks

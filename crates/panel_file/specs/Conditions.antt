@@ -45,6 +45,11 @@ pub record FileNumbered (maxNodes maxPanels extra : ℕ) (b : List ℕ) (r : ℕ
   pub is-3 : (r ≡ 3) ↔ (Marked b × WithinLimits maxNodes maxPanels (decode b) × LengthDue extra b × MissingNode (decode b))
   pub is-4 : (r ≡ 4) ↔ (Marked b × WithinLimits maxNodes maxPanels (decode b) × LengthDue extra b × NoneMissing (decode b) × ZeroArea (decode b))
 
+-- the number of a call that tests the file and nothing more
+pub record FileTestNumbered (maxNodes maxPanels extra : ℕ) (b : List ℕ) (r : ℕ) : Type 0 where
+  pub file : FileNumbered maxNodes maxPanels extra b r
+  pub is-0 : (r ≡ 0) ↔ AcceptedFile maxNodes maxPanels extra b
+
 -- the reader's number
 pub record ReadNumbered (maxNodes maxPanels : ℕ) (b : List ℕ) (l : Lengths) (r : ℕ) : Type 0 where
   pub file : FileNumbered maxNodes maxPanels 0 b r

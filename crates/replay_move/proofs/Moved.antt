@@ -14,13 +14,10 @@ use lib.ListN.{length, getD, take, length-take}
 use lib.Ieee.{Float}
 use Rattle.mesh.specs.Refusal.{after, after-done, after-refused}
 use Rattle.binary64.specs.Binary64.{at}
-use Rattle.tri.specs.Quadrature.{quadratureRule}
 use Rattle.mesh.specs.Mesh.{Mesh, meshOf, nnode}
-use Rattle.inductance.specs.Matrix.{cell, matrix}
-use Rattle.inductance.specs.Assembly.{blockUnder}
 use Rattle.scatter.specs.Entries.{same}
 use Rattle.scatter.specs.Renewal.{renewed}
-use Rattle.node_move.specs.Move.{moved, ring, namedCount, moveRefusal, MoveClaim}
+use Rattle.node_move.specs.Move.{moved, ring, namedCount, MoveClaim, MovedBy}
 use Rattle.replay_words.proofs.Lent.{at-most}
 use Rattle.replay_words.specs.Words.{cutAt, part, vectorAt}
 use Rattle.replay_columns.specs.After.{leftAsDue}
@@ -48,8 +45,8 @@ record Left (cellOf : Mesh → ℕ → ℕ → Float) (m : Mesh) (old : List Flo
   pub y : m′ .ys ≡ after r (moved m v px py pz .ys) (m .ys)
   pub z : m′ .zs ≡ after r (moved m v px py pz .zs) (m .zs)
 
-left : {cellOf : Mesh → ℕ → ℕ → Float} {matrixOf : Mesh → List Float} {refusal : ℕ} {m : Mesh} {old : List Float} {v : ℕ} {px py pz : Float} {r count : ℕ} {m′ : Mesh} {new : List Float}
-    → MoveClaim cellOf matrixOf refusal m old v px py pz r count m′ new → Left cellOf m old v px py pz r count m′ new
+left : {Choice : Type 0} {cellOf : Mesh → ℕ → ℕ → Float} {matrixOf : Mesh → List Float} {refusal : ℕ} {m : Mesh} {old : List Float} {v : ℕ} {px py pz : Float} {r count : ℕ} {m′ : Mesh} {new : List Float}
+    → MoveClaim Choice cellOf matrixOf refusal m old v px py pz r count m′ new → Left cellOf m old v px py pz r count m′ new
 left {r = r} h = record {
   total = counted r _ _ (λ e. h .accepted e .total) (λ n. h .refused n .2);
   cells = joined r _ _ _ (λ e. h .accepted e .cells) (λ n. h .refused n .1);
@@ -61,7 +58,7 @@ left {r = r} h = record {
 -- what is compared, of a move whose copies are what the case has
 pub compared : (number : ℕ) (p : List Float) (w : List ℕ) (k : ℕ) (t0 t1 t2 : List ℕ) {x y z x0 y0 z0 : List Float} {cells cells0 : List Float} {v r count : ℕ} {x' y' z' new : List Float} {b : Bool}
     → (x ≡ x0) × (y ≡ y0) × (z ≡ z0) × (cells ≡ cells0)
-    → MoveClaim (cell (blockUnder (quadratureRule number))) (matrix (blockUnder (quadratureRule number))) (moveRefusal (quadratureRule number) (meshOf x y z t0 t1 t2) (length cells) v (at p 0) (at p 1) (at p 2)) (meshOf x y z t0 t1 t2) cells v (at p 0) (at p 1) (at p 2) r count (meshOf x' y' z' t0 t1 t2) new
+    → MovedBy number (meshOf x y z t0 t1 t2) cells v (at p 0) (at p 1) (at p 2) r count (meshOf x' y' z' t0 t1 t2) new
     → b ≡ leftAsDue r count x' y' z' new x0 y0 z0 cells0 w k
     → b ≡ moveInto number (meshOf x y z t0 t1 t2) cells v p w k
 unfolding moveInto

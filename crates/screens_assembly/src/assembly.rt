@@ -7,10 +7,7 @@ ghost use Rattle.linkage.specs.Energy as Energy;
 ghost use Rattle.linkage.specs.Flux as Flux;
 ghost use Rattle.linkage.specs.Flux.{Linked};
 ghost use Rattle.linkage.specs.Row as Row;
-ghost use Rattle.tri.specs.Quadrature.{quadratureRule};
-ghost use Rattle.inductance.specs.Assembly.{blockUnder};
-ghost use Rattle.inductance.specs.Matrix as Matrix;
-ghost use Rattle.node_move.specs.Move.{MoveClaim, moveRefusal};
+ghost use Rattle.node_move.specs.Move.{MovedBy};
 ghost use Rattle.screens_assembly.specs.Rows.{RowAt};
 
 // The matrix, row by row, under the rule of a number from 1 to 5.
@@ -148,7 +145,7 @@ pub extern "C" fn screens_move_node(
     pz: f64,
     count: &mut usize,
 ) -> u32
-    ensures { λ r. ⌜ MoveClaim (Matrix.cell (blockUnder (quadratureRule rule))) (Matrix.matrix (blockUnder (quadratureRule rule))) (moveRefusal (quadratureRule rule) (meshOf (now (x .entry)) (now (y .entry)) (now (z .entry)) (now (t0 .entry)) (now (t1 .entry)) (now (t2 .entry))) (List.length (now (matrix .entry))) node px py pz) (meshOf (now (x .entry)) (now (y .entry)) (now (z .entry)) (now (t0 .entry)) (now (t1 .entry)) (now (t2 .entry))) (now (matrix .entry)) node px py pz r (now (count .exit)) (meshOf (now (x .exit)) (now (y .exit)) (now (z .exit)) (now (t0 .entry)) (now (t1 .entry)) (now (t2 .entry))) (now (matrix .exit)) ⌝ }
+    ensures { λ r. ⌜ MovedBy rule (meshOf (now (x .entry)) (now (y .entry)) (now (z .entry)) (now (t0 .entry)) (now (t1 .entry)) (now (t2 .entry))) (now (matrix .entry)) node px py pz r (now (count .exit)) (meshOf (now (x .exit)) (now (y .exit)) (now (z .exit)) (now (t0 .entry)) (now (t1 .entry)) (now (t2 .entry))) (now (matrix .exit)) ⌝ }
 {
     let moved = node_move::move_node(rule, x, y, z, t0, t1, t2, matrix, node, px, py, pz);
     *count = moved.count;

@@ -1,6 +1,8 @@
 -- quadrature.rs: Dunavant's rules on the reference triangle, a row being weight, u, v. Definitions only.
-use Prim.Native.Nat.{ℕ}
-use mathlib.Core.Bool.{cond}
+use Prim.Native.Nat.{ℕ, _<_}
+use mathlib.Core.Path.{_≡_}
+use mathlib.Core.Logic.{_⊎_}
+use mathlib.Core.Bool.{Bool, true, false, cond}
 use lib.Dec.{eqb}
 use mathlib.Core.List.{List, [], _∷_}
 use lib.ListN.{getD, length}
@@ -97,3 +99,12 @@ quadratureRule number =
     (cond (eqb number 4) (Known Dunavant4)
     (cond (eqb number 5) (Known Dunavant5)
     Unknown))))
+
+-- a number that is no rule's
+abbrev pub NoSuchRule : ℕ → Type 0
+NoSuchRule number = (number ≡ 0) ⊎ (5 < number)
+
+-- 12
+abbrev pub isUnknown : Rule → Bool
+isUnknown (Known kind) = false
+isUnknown Unknown = true

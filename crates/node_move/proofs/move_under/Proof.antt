@@ -5,14 +5,16 @@ use Rattle.mesh.specs.Mesh.{Mesh, meshOf}
 use Rattle.coupling.specs.Block.{mutualInductanceBlock}
 use Rattle.inductance.specs.Matrix.{cell, matrix}
 use Rattle.node_move.proofs.Laws.{move-fresh}
-use Rattle.node_move.proofs.Refused.{ready, claim-refused, claim-done}
+use Rattle.node_move.proofs.Refused.{ready, matrix-long, due-under, claim-refused, claim-done}
 use Rattle.node_move.proofs.move_under.Statement.{statement}
 use Rattle.node_move.proofs.move_under.Tie as tie
 
 returns : tie.Need-returns
 returns c =
     let a = c .before .before .before .before .before .before .before .before .before .before .before .before .args in
-    claim-refused _ _ _ (meshOf (now (a .x)) (now (a .y)) (now (a .z)) (now (a .t0)) (now (a .t1)) (now (a .t2))) (now (a .out)) (a .v) (a .px) (a .py) (a .pz) _ (c .if1 .taken) (c .before .place-refusal .ensures)
+    let m : Mesh = meshOf (now (a .x)) (now (a .y)) (now (a .z)) (now (a .t0)) (now (a .t1)) (now (a .t2)) in
+    let f = mutualInductanceBlock (a .kind) in
+    claim-refused Unit (cell f) (matrix f) _ m (now (a .out)) (a .v) (a .px) (a .py) (a .pz) (due-under m (now (a .out)) (a .v) (a .px) (a .py) (a .pz)) (matrix-long f m) _ (c .if1 .taken) (c .before .place-refusal .ensures)
 
 move-accepted-requires : tie.Need-move-accepted-requires
 move-accepted-requires c κs =
@@ -24,7 +26,7 @@ returns-2 c =
     let a = c .before .before .before .before .before .before .before .before .before .before .before .before .before .before .before .before .before .before .before .before .before .before .before .before .before .args in
     let m : Mesh = meshOf (now (a .x)) (now (a .y)) (now (a .z)) (now (a .t0)) (now (a .t1)) (now (a .t2)) in
     let f = mutualInductanceBlock (a .kind) in
-    claim-done (cell f) (matrix f) _ m (now (a .out)) (a .v) (a .px) (a .py) (a .pz) _ _ _ (move-fresh f m (a .v) (a .px) (a .py) (a .pz)) (sym (c .before .before .before .before .before .before .before .before .before .before .before .before .before .if1 .left) ∙ c .before .before .before .before .before .before .before .before .before .before .before .before .before .before .place-refusal .ensures) (c .before .before .before .before .before .before .before .before .move-accepted .ensures)
+    claim-done Unit (cell f) (matrix f) _ m (now (a .out)) (a .v) (a .px) (a .py) (a .pz) (due-under m (now (a .out)) (a .v) (a .px) (a .py) (a .pz)) (matrix-long f m) _ _ _ (move-fresh f m (a .v) (a .px) (a .py) (a .pz)) (sym (c .before .before .before .before .before .before .before .before .before .before .before .before .before .if1 .left) ∙ c .before .before .before .before .before .before .before .before .before .before .before .before .before .before .place-refusal .ensures) (c .before .before .before .before .before .before .before .before .move-accepted .ensures)
 
 pub move-under-spec : {M : Type 1} → statement M
 move-under-spec =

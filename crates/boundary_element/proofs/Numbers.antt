@@ -1,0 +1,50 @@
+-- The number of the call on a mesh by its conditions: 5 and 6 stand behind the mesh's checks, and the laws of a call that tests its mesh do the rest.
+use mathlib.Core.Path.{_≡_}
+use mathlib.Core.Logic.{_↔_}
+use mathlib.Core.Bool.{false, not, _||_}
+use mathlib.Core.List.{[], _∷_, _++_}
+use Prim.Native.Nat.{ℕ}
+use borrow.Author.Tests.{eq-eqb}
+use lib.Dec.{eqb}
+use Rattle.mesh.specs.Refusal.{check, applies-first, nodalValues, outputLength}
+use Rattle.mesh.specs.Mesh.{Mesh, nnode, ntri, maxNodes, maxPanels}
+use Rattle.mesh.proofs.Refusals.{on, or-off, differ-off}
+use Rattle.mesh.proofs.Calls.{call-behind, call-area, call-done, call-of-mesh}
+use Rattle.boundary_element.specs.CurrentDensity.{outputsDiffer, densityChecks, densityRefusal, OutputsDue, DensityNumbered}
+
+outputs-off : (n a b c : ℕ) → (outputsDiffer n a b c ≡ false) ↔ OutputsDue n a b c
+unfolding outputsDiffer
+outputs-off n a b c = (
+  (λ e.
+      let o = or-off _ _ e in
+      let q = or-off _ _ (o .1) in
+      record { x = differ-off a n .0 (o .0); y = differ-off b n .0 (q .0); z = differ-off c n .0 (q .1) }),
+  λ h. rw (eq-eqb a n (h .x), eq-eqb b n (h .y), eq-eqb c n (h .z)),
+)
+
+pub density-numbered : (m : Mesh) (values lx ly lz : ℕ) → DensityNumbered m values lx ly lz (densityRefusal m values lx ly lz)
+unfolding densityRefusal
+density-numbered m values lx ly lz =
+    let post = densityChecks (nnode m) (ntri m) values lx ly lz in
+    let few = not (eqb values (nnode m)) in
+    let short = outputsDiffer (ntri m) lx ly lz in
+    let w4 = call-area maxNodes maxPanels m [] post Unit (λ h. h, λ h. h) tt tt in
+    let w5 = call-behind maxNodes maxPanels m [] post Unit (λ h. h, λ h. h) nodalValues tt tt tt in
+    let w6 = call-behind maxNodes maxPanels m [] post Unit (λ h. h, λ h. h) outputLength tt tt tt in
+    let w0 = call-done maxNodes maxPanels m [] post Unit (λ h. h, λ h. h) tt tt in
+    let own5 = applies-first [] nodalValues few (check outputLength short ∷ []) tt tt tt in
+    let own6 = applies-first (check nodalValues few ∷ []) outputLength short [] tt tt tt in
+    let v-off = differ-off values (nnode m) in
+    let v-on = on few (values ≡ nnode m) v-off in
+    let o-off = outputs-off (ntri m) lx ly lz in
+    let o-on = on short (OutputsDue (ntri m) lx ly lz) o-off in
+    record {
+      mesh = call-of-mesh maxNodes maxPanels m [] post Unit (λ h. h, λ h. h) tt tt;
+      is-4 = (λ e. w4 .0 e .1, λ h. w4 .1 (tt, h));
+      is-5 = (λ e. let v = w5 .0 e in (v .1, v-on .0 (own5 .0 (v .2) .1)), λ h. w5 .1 (tt, h .0, own5 .1 (tt, v-on .1 (h .1))));
+      is-6 = (
+        (λ e. let v = w6 .0 e in let u = own6 .0 (v .2) in (v .1, v-off .0 (u .0 .0), o-on .0 (u .1))),
+        λ h. w6 .1 (tt, h .0, own6 .1 ((v-off .1 (h .1), tt), o-on .1 (h .2))),
+      );
+      is-0 = (λ e. let v = w0 .0 e in (v .1, v-off .0 (v .2 .0), o-off .0 (v .2 .1 .0)), λ h. w0 .1 (tt, h .0, (v-off .1 (h .1), (o-off .1 (h .2), tt))));
+    }
