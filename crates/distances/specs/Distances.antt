@@ -1,4 +1,4 @@
--- The distances between the points of two lists of coordinates each. Definitions only.
+-- Inner form: the distances between the points of two lists of coordinates each. Definitions only.
 use mathlib.Core.List.{List, [], _∷_}
 use Prim.Native.Nat.{ℕ, _/_, _%_}
 use lib.Ieee.{Float}

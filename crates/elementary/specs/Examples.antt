@@ -1,4 +1,4 @@
--- Closed values, by computation: what the oracle's stand-ins give at the same inputs.
+-- Document 01's stand-ins at closed values, by computation: what the oracle's stand-ins give at the same inputs.
 use mathlib.Core.Path.{_≡_, refl}
 use lib.Ieee.{nan, binary64, ofBits, toBits, add, sub, mul, div, neg, lt, le, eq, isNan, ofInt}
 use Rattle.binary64.specs.Binary64.{bits}

@@ -1,4 +1,4 @@
--- What one lane of `asinhs` and of `atan2s` computes: asinh with the significand and the exponent read off a pattern, atan2 without its special cases, and NaN where they do not hold. Definitions only.
+-- Inner form: what one lane of `asinhs` and of `atan2s` computes: asinh with the significand and the exponent read off a pattern, atan2 without its special cases, and NaN where they do not hold. Definitions only.
 use mathlib.Core.Bool.{Bool, false, cond, _&&_, _||_}
 use mathlib.Core.List.{List}
 use mathlib.Core.Path.{_≡_}

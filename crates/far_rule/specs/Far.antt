@@ -1,4 +1,4 @@
--- The far rule with each distance worked out once for both directions: sums over the points of two panels.
+-- Inner form: the far rule with each distance worked out once for both directions: sums over the points of two panels.
 -- Definitions, with the equations of those that recur.
 use mathlib.Core.Path.{_≡_}
 use Prim.Native.Nat.{ℕ, zero, suc, _+_, _*_}

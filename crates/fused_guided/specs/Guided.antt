@@ -1,4 +1,4 @@
--- What the guided form tests and computes: the fields of a pattern, the exact sum ±p ± z, its significand, and when the form answers.
+-- Inner form: what the guided form tests and computes: the fields of a pattern, the exact sum ±p ± z, its significand, and when the form answers.
 -- Definitions only.
 use mathlib.Core.Path.{_≡_}
 use mathlib.Core.Bool.{Bool, true, false, not, _&&_}

@@ -1,4 +1,4 @@
--- Closed values, by computation: a lane settles, and where it does not it says so.
+-- Inner form at closed values, by computation: a lane settles, and where it does not it says so.
 use mathlib.Core.Path.{_≡_, refl}
 use lib.Ieee.{nan, ofBits, toBits, add, sub, mul, lt, le, eq}
 use Rattle.binary64.specs.Binary64.{bits, one}

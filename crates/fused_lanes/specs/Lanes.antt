@@ -1,4 +1,4 @@
--- What one lane computes: x * x + z by float operations, with a rounding test. Definitions only.
+-- Inner form: what one lane computes: x * x + z by float operations, with a rounding test. Definitions only.
 use mathlib.Core.Bool.{Bool, cond, _&&_}
 use Prim.Native.Nat.{ℕ, _-_, _%_, _^_}
 use lib.Ieee.{Float, nan, binary64, toBits, lt, le, eq}

@@ -1,4 +1,4 @@
--- What `mul_add` and `square_add` test and compute: the rest of the exact sum over the hardware's sum t, and when that gives the answer. Definitions only.
+-- Inner form: what `mul_add` and `square_add` test and compute: the rest of the exact sum over the hardware's sum t, and when that gives the answer. Definitions only.
 use mathlib.Core.Bool.{Bool, cond, _&&_}
 use lib.Dec.{leb, ltb}
 use lib.Ieee.{Float, eq, ne}

@@ -1,4 +1,4 @@
--- The operations of binary64 that the toolchain's library lacks, by the names that the Rust has for them. Definitions only.
+-- The Rust's `mul_add`, `sqrt`, `min`, `max`, `clamp`, `abs` and sign bit of an f64, which the toolchain's library lacks; `min`, `max` and `clamp` by document 01's words. Definitions only.
 use mathlib.Core.Bool.{Bool, true, false, cond}
 use lib.Ieee.{Float, nan, inf, fin, neg, lt, isNan}
 -- IEEE 754 fusedMultiplyAdd: `fma a b c` is a * b + c, rounded once

@@ -1,4 +1,4 @@
--- Panels' own numbers in one array, seventeen a panel: the corners are in the mesh's columns already. Definitions only.
+-- Inner form: panels' own numbers in one array, seventeen a panel: the corners are in the mesh's columns already. Definitions only.
 use mathlib.Core.Path.{_≡_}
 use mathlib.Core.List.{List, [], _∷_}
 use Prim.Native.Nat.{ℕ, _+_, _*_, _<_, _≤_}

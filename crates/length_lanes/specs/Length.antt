@@ -1,4 +1,4 @@
--- The square of a length as one lane computes it, and what it is. Definitions only.
+-- Inner form: the square of a length as one lane computes it, and what it is. Definitions only.
 use mathlib.Core.Path.{_≡_}
 use mathlib.Core.Bool.{false}
 use lib.Ieee.{Float, isNan}

@@ -1,4 +1,4 @@
--- Vectors, triangles and a panel's record as single numbers, and what a call that writes numbers answers and leaves. Definitions only.
+-- The C interface, which the Rust has not: vectors, triangles and a panel's record as single numbers, and what a call that writes numbers answers and leaves. Definitions only.
 use Prim.Native.Nat.{ℕ}
 use mathlib.Core.Path.{_≡_}
 use mathlib.Core.Bool.{cond}

@@ -1,4 +1,4 @@
--- Whether two panels are far from each other, of numbers that are kept: the boxes' distance and the limit that it is held to. Definitions only.
+-- Inner form: whether two panels are far from each other, of numbers that are kept: the boxes' distance and the limit that it is held to. Definitions only.
 use mathlib.Core.Bool.{Bool, false, cond, not, _&&_, _||_}
 use lib.Ieee.{Float, inf, neg, lt, le}
 use Rattle.binary64.specs.Binary64.{_⊕_, _⊖_, _⊗_, at, bits, plusZero}

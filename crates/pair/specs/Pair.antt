@@ -1,4 +1,4 @@
--- The numbers that a panel keeps. Each is a definition of the crates below at the panel's corners, so what is made of them is a function of the corners.
+-- Inner form: the numbers that a panel keeps. Each is a definition of the crates below at the panel's corners, so what is made of them is a function of the corners.
 use mathlib.Core.Path.{_≡_, refl}
 use Prim.Native.Nat.{ℕ}
 use mathlib.Core.List.{List, [], _∷_}

@@ -1,4 +1,4 @@
--- What the assembly's own functions ask of a mesh, a matrix, marks, flags and links. Definitions only.
+-- Inner form: what the assembly's own functions ask of a mesh, a matrix, marks, flags and links. Definitions only.
 use mathlib.Core.Bool.{Bool}
 use mathlib.Core.List.{List}
 use Prim.Native.Nat.{ℕ, _≤_}

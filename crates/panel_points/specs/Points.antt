@@ -1,4 +1,4 @@
--- The rows of a rule and its points on a panel, in seven places for any rule, and sums over indices. Definitions, with the equations of those that recur.
+-- The C interface's `coordinates`, nine numbers of three vectors; the rest is inner form: the rows of a rule and its points on a panel, in seven places for any rule, and sums over indices. Definitions, with the equations of those that recur.
 use mathlib.Core.Path.{_≡_}
 use Prim.Native.Nat.{ℕ, zero, suc, _+_}
 use mathlib.Core.List.{List, [], _∷_}

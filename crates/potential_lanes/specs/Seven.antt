@@ -1,4 +1,4 @@
--- The potential at many points, of the numbers of one edge. Definitions only; addEdgeOf is Potential's addEdge with the edge's numbers at hand.
+-- Inner form: the potential at many points, of the numbers of one edge. Definitions only; addEdgeOf is Potential's addEdge with the edge's numbers at hand.
 use Prim.Native.Nat.{ℕ, zero, suc, _+_, _*_, _/_, _%_, _<_}
 use mathlib.Core.Bool.{Bool, false, cond, _&&_, _||_}
 use mathlib.Core.List.{List, [], _∷_}

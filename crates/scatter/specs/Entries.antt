@@ -1,4 +1,4 @@
--- A nodal matrix as a list of additions in program order: each names a cell and a value. A cell is the sum of the values that name it, in that order.
+-- inductance.rs, `scatter_triangle_block`: a nodal matrix as a list of additions in program order: each names a cell and a value. A cell is the sum of the values that name it, in that order.
 -- Definitions only.
 use mathlib.Core.Bool.{Bool, true, false, _&&_}
 use mathlib.Core.List.{List, [], _∷_, _++_, map}

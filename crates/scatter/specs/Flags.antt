@@ -1,4 +1,4 @@
--- Which panels have a marked node, so that the loops over pairs pass over the others. Definitions only.
+-- Inner form: which panels have a marked node, so that the loops over pairs pass over the others. Definitions only.
 use mathlib.Core.Path.{_≡_}
 use mathlib.Core.Bool.{Bool}
 use mathlib.Core.List.{List}

@@ -1,4 +1,4 @@
--- The first number from a place up that passes a test, so that a scan goes from one to the next and not over all. Definitions only.
+-- Inner form: the first number from a place up that passes a test, so that a scan goes from one to the next and not over all. Definitions only.
 use mathlib.Core.Bool.{Bool, cond}
 use mathlib.Core.Path.{_≡_}
 use mathlib.Core.List.{List}

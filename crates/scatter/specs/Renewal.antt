@@ -1,4 +1,4 @@
--- Cells of a matrix worked out anew while the others keep their numbers: a cell is named if its row or its column is marked, and only additions to named cells are made.
+-- Document 01's move: cells of a matrix worked out anew while the others keep their numbers: a cell is named if its row or its column is marked, and only additions to named cells are made.
 -- With every node marked this is the assembly of the whole matrix. Definitions only.
 use mathlib.Core.Bool.{Bool, true, false, _||_, cond}
 use mathlib.Core.Path.{_≡_}

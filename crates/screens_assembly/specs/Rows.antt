@@ -1,4 +1,4 @@
--- What a call with a row answers and leaves. Definitions only.
+-- The C interface, which the Rust has not: what a call with a row answers and leaves. Definitions only.
 use Prim.Native.Nat.{ℕ, _*_}
 use mathlib.Core.Path.{_≡_}
 use mathlib.Core.Bool.{cond}

@@ -1,4 +1,4 @@
--- Vectors and triangles of single numbers, and what a call with a value or a block answers and leaves. Definitions only.
+-- The C interface, which the Rust has not: vectors and triangles of single numbers, and what a call with a value or a block answers and leaves. Definitions only.
 use Prim.Native.Nat.{ℕ}
 use mathlib.Core.Path.{_≡_}
 use mathlib.Core.Bool.{cond}

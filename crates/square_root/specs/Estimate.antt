@@ -1,4 +1,4 @@
--- The estimate of a root, in float arithmetic: what it computes, and the test over whole numbers that tells whether it is the nearest value. Nothing is claimed of the estimate itself.
+-- Inner form: the estimate of a root, in float arithmetic: what it computes, and the test over whole numbers that tells whether it is the nearest value. Nothing is claimed of the estimate itself.
 -- Definitions only.
 use mathlib.Core.Bool.{Bool, false, cond, _&&_}
 use Prim.Native.Nat.{ℕ, _+_, _-_, _*_, _/_, _%_, _^_}

@@ -1,4 +1,4 @@
--- Closed cases of `sqrt`, by computation.
+-- The Rust's `sqrt`: closed cases, by computation.
 use mathlib.Core.Path.{_≡_, refl}
 use Prim.Native.Nat.{ℕ}
 use lib.Ieee.{nan, binary64, ofBits, toBits}

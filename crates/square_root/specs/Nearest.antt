@@ -1,4 +1,4 @@
--- What it is to be the nearest to a root: of whole numbers, and of values of binary64. Definitions only.
+-- The Rust's `sqrt`, for the theorem on it: what it is to be the nearest to a root: of whole numbers, and of values of binary64. Definitions only.
 use Prim.Native.Nat.{ℕ, _+_, _-_, _*_, _^_, _≤_, _<_}
 use mathlib.Core.Bool.{false}
 use lib.Ieee.{Float}

@@ -1,4 +1,4 @@
--- IEEE 754's squareRoot (IEEE 754-2019, 5.4.1), rounded once to nearest, over whole numbers. Definitions only.
+-- The Rust's `sqrt`, IEEE 754's squareRoot (IEEE 754-2019, 5.4.1), rounded once to nearest, over whole numbers. Definitions only.
 use Prim.Native.Nat.{ℕ, zero, suc, _+_, _*_, _/_, _^_}
 use mathlib.Core.Bool.{false, cond}
 use lib.Dec.{leb, eqb}
