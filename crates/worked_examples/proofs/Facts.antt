@@ -1,4 +1,4 @@
--- The bench sheet: each fact is computed from the definitions; the display value is a closed case of its own crate.
+-- The bench sheet: each fact is computed from the definitions; no lemma stands between.
 use mathlib.Core.Path.{refl}
 use lib.Ieee.{neg, ofBits, toBits, add, sub, mul, div, lt, le, isNan}
 use Rattle.ieee754.specs.Ieee754.{fma, sqrt, min, max, clamp}
@@ -6,37 +6,45 @@ use Rattle.square_root.specs.SquareRoot.{squareRoot}
 use Rattle.math.specs.Math.{norm3, dot3, cross3, sub3, addScaled3}
 use Rattle.tri.specs.Mapping.{area, rawNormal}
 use Rattle.tri.specs.Tri3.{closestPoint, exitsFromSecond, exitsFromFourth, exitsFromSixth}
-use Rattle.mesh.specs.Refusal.{first}
-use Rattle.mesh.specs.Counting.{someBelow, anyOf}
+use Rattle.mesh.specs.Refusal.{first, after}
+use Rattle.mesh.specs.Counting.{someBelow, anyOf, countBelow}
 use Rattle.mesh.specs.Filling.{tabulateFrom}
-use Rattle.mesh.specs.Mesh.{meshRefusal, meshChecks, lengthsDiffer, passesLimits, missesNode, isZeroArea}
+use Rattle.mesh.specs.Mesh.{meshRefusal, meshChecks, lengthsDiffer, passesLimits, missesNode, isZeroArea, edgeSq, quality, isPoor, poorPanels, testedCount}
 use Rattle.boundary_element.specs.Identity.{pointsMatch, matchesCorner, trianglesIdentical}
 use Rattle.panel_distance.specs.Distance.{distanceSquared, pointTriangleDistanceSquared, lineParameter, offsetSquared, keptOffsetSquared, segmentDistanceSquared, leastOfCorners, leastOfEdges, triangleDistanceSquared, lowest, highest, gap, triangleAabbDistanceSquared, triangleMaxEdgeSquared}
 use Rattle.panel_distance.specs.Bisection.{firstLongest, longestEdge, midpoint, halves, longestEdgeBisection}
-use Rattle.coupling.specs.Coupling.{isFar}
-use Rattle.linkage.specs.Energy.{rowAdded, rowsAdded}
+use Rattle.coupling.specs.Coupling.{isFar, geometricCoupling}
+use Rattle.linkage.specs.Energy.{rowAdded, rowsAdded, energyRefusal}
 use Rattle.linkage.specs.Flux.{fluxTo, interactionTo, lacksSources, brokenRows, rowsDiffer, mapRefusal}
-use Rattle.display.specs.Examples.{half-up}
+use Rattle.display.specs.Display.{roundHalfAway, nanohenries, outOfRange, displayRefusal, withSign, shown}
 use Rattle.worked_examples.specs.BenchSheet.{BenchSheet}
 
--- the fifteen facts, together
+-- the starred facts, together
 pub bench-sheet : BenchSheet
-unfolding fma sqrt squareRoot min max clamp norm3 dot3 cross3 sub3 addScaled3 area rawNormal closestPoint exitsFromSecond exitsFromFourth exitsFromSixth first someBelow anyOf tabulateFrom meshRefusal meshChecks lengthsDiffer passesLimits missesNode isZeroArea pointsMatch matchesCorner trianglesIdentical distanceSquared pointTriangleDistanceSquared lineParameter offsetSquared keptOffsetSquared segmentDistanceSquared leastOfCorners leastOfEdges triangleDistanceSquared lowest highest gap triangleAabbDistanceSquared triangleMaxEdgeSquared firstLongest longestEdge midpoint halves longestEdgeBisection isFar rowAdded rowsAdded fluxTo interactionTo lacksSources brokenRows rowsDiffer mapRefusal neg ofBits toBits add sub mul div lt le isNan
+unfolding fma sqrt squareRoot min max clamp norm3 dot3 cross3 sub3 addScaled3 area rawNormal closestPoint exitsFromSecond exitsFromFourth exitsFromSixth first after someBelow anyOf countBelow tabulateFrom meshRefusal meshChecks lengthsDiffer passesLimits missesNode isZeroArea edgeSq quality isPoor poorPanels testedCount pointsMatch matchesCorner trianglesIdentical distanceSquared pointTriangleDistanceSquared lineParameter offsetSquared keptOffsetSquared segmentDistanceSquared leastOfCorners leastOfEdges triangleDistanceSquared lowest highest gap triangleAabbDistanceSquared triangleMaxEdgeSquared firstLongest longestEdge midpoint halves longestEdgeBisection isFar geometricCoupling rowAdded rowsAdded energyRefusal fluxTo interactionTo lacksSources brokenRows rowsDiffer mapRefusal roundHalfAway nanohenries outOfRange displayRefusal withSign shown neg ofBits toBits add sub mul div lt le isNan
 bench-sheet =
     record {
       fused = refl;
       root-of-minus-zero = refl;
       root-of-two = refl;
       thin-accepted = refl;
+      thin-count = refl;
       thinner-refused = refl;
+      thinner-count = refl;
       near-at-five = refl;
+      near-rule = λ kind. refl;
       far-above-five = refl;
+      far-rule = λ kind. refl;
       split-edge = refl;
       split-point = refl;
-      flux-17 = refl;
-      flux-39 = refl;
+      map-accepted = refl;
+      flux-17-39 = refl;
       energy-56 = refl;
       no-sources = refl;
+      no-sources-map = refl;
+      no-sources-output = λ held. refl;
+      matrix-accepted = refl;
       energy-12-and-a-half = refl;
-      displayed = half-up;
+      display-accepted = refl;
+      displayed = refl;
     }

@@ -1,16 +1,16 @@
 // The lines of document 01's bench sheet, worked out by the library.
 ghost use mathlib.Core.Path.{_≡_};
-ghost use mathlib.Core.List.{[], _∷_};
+ghost use mathlib.Core.List.{[]};
 ghost use lib.ListN.{getD};
 ghost use lib.IntN.{pos};
-ghost use Rattle.binary64.specs.Binary64.{bits, plusZero, one, four};
+ghost use Rattle.binary64.specs.Binary64.{plusZero};
 ghost use Rattle.mesh.specs.Mesh.{meshRefusal, maxNodes, maxPanels};
 ghost use Rattle.panel_distance.specs.Bisection.{longestEdge, longestEdgeBisection};
 ghost use Rattle.coupling.specs.Coupling.{isFar};
 ghost use Rattle.linkage.specs.Energy.{inductiveEnergy};
 ghost use Rattle.linkage.specs.Flux.{fluxLinkage, interactionEnergy, mapRefusal};
 ghost use Rattle.display.specs.Display as Display;
-ghost use Rattle.worked_examples.specs.BenchSheet.{thin, raised, unit, sheetMap, sheetCoefficients, identity, three};
+ghost use Rattle.worked_examples.specs.BenchSheet.{thin, raised, unit, sheetMap, sheetCoefficients, sheetValues, identity, nodalValues, inductance};
 
 // The mesh test's number for corners (0,0,0), (1,0,0), (0,height,0).
 pub fn thin_refusal(height: f64) -> u32
@@ -67,7 +67,7 @@ pub fn flux() -> [f64; 2]
 }
 
 pub fn interaction_energy() -> f64
-    ensures { λ r. ⌜ r ≡ interactionEnergy sheetMap (one ∷ one ∷ []) sheetCoefficients ⌝ }
+    ensures { λ r. ⌜ r ≡ interactionEnergy sheetMap sheetValues sheetCoefficients ⌝ }
 {
     let map = [1.0, 2.0, 3.0, 4.0];
     let values = [1.0, 1.0];
@@ -94,7 +94,7 @@ pub fn no_sources() -> u32
 }
 
 pub fn energy() -> f64
-    ensures { λ r. ⌜ r ≡ inductiveEnergy identity (three ∷ four ∷ []) ⌝ }
+    ensures { λ r. ⌜ r ≡ inductiveEnergy identity nodalValues ⌝ }
 {
     let matrix = [1.0, 0.0, 0.0, 1.0];
     let values = [3.0, 4.0];
@@ -103,7 +103,7 @@ pub fn energy() -> f64
 
 // 1/1024 H in whole nanohenries.
 pub fn displayed() -> u64
-    ensures { λ r. ⌜ pos r ≡ Display.shown (bits 0x3f50_0000_0000_0000) ⌝ }
+    ensures { λ r. ⌜ pos r ≡ Display.shown inductance ⌝ }
 {
     let shown = display::display(0.0009765625).value;
     shown as u64
