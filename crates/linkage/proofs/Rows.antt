@@ -6,15 +6,12 @@ use Prim.Native.Nat.{ℕ, _+_, _*_, _<_, _≤_}
 use native.Mathlib.Nat.{pos-of-ne-zero}
 use native.Mathlib.Omega.{arith}
 use borrow.Author.Tests.{ne-eqb}
-use lib.ListN.{length, drop, length-drop}
-use lib.Seq.{length-take-le}
+use lib.ListN.{length}
 use lib.Ieee.{Float}
-use Rattle.linkage.specs.Row.{stretch, rowAfter, matrixRowRefusal, matrixRow, mapRowRefusal, mapRow}
-use Rattle.linkage.proofs.Sizes.{matrix-row-sized, map-row-sized}
+use Rattle.linkage.specs.Stretch.{stretch}
+use Rattle.linkage.specs.Row.{rowAfter, matrixRowRefusal, matrixRow, mapRowRefusal, mapRow}
+use Rattle.linkage.proofs.Sizes.{stretch-long, matrix-row-sized, map-row-sized}
 use Rattle.linkage.proofs.Numbers.{matrix-row-numbered, map-row-numbered}
-
-stretch-long : (m : List Float) (w i : ℕ) → i * w + w ≤ length m → length (stretch m w i) ≡ w
-stretch-long m w i h = length-take-le w (drop (i * w) m) (rw (length-drop (i * w) m) (omega arith))
 
 row-empty : (r : ℕ) (m : List Float) (w i : ℕ)
     → (r ≡ 0 → i * w + w ≤ length m) → (r ≡ 0 → 0 < w) → (rowAfter r (stretch m w i) ≡ []) ↔ (r ≡ 0 → ⊥)

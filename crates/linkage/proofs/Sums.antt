@@ -2,7 +2,7 @@
 use mathlib.Core.Path.{_≡_, refl, ap, _∙_}
 use mathlib.Core.Bool.{Bool, true, false, cond}
 use mathlib.Core.List.{List}
-use Prim.Native.Nat.{ℕ, _+_, _*_}
+use Prim.Native.Nat.{ℕ, _+_}
 use native.Mathlib.Numerals.{add-one}
 use borrow.Author.Tests.{ne-eqb}
 use lib.ListN.{length}
@@ -10,20 +10,21 @@ use lib.Dec.{eqb}
 use lib.Ieee.{Float, mul, ofBits}
 use Rattle.binary64.specs.Binary64.{_⊕_, _⊗_, at, plusZero, half}
 use Rattle.linkage.specs.Answer.{valueAfter}
+use Rattle.linkage.specs.Stretch.{stretch}
 use Rattle.linkage.specs.Energy.{rowAdded, rowsAdded}
 use Rattle.linkage.specs.Flux.{fluxTo, rowFlux, interactionTo}
 
-pub row-more : (l s t : List Float) (i : ℕ) (x : Float) (k : ℕ) → rowAdded l s t i x (k + 1) ≡ rowAdded l s t i x k ⊕ at s i ⊗ at l (i * length s + k) ⊗ at t k
+pub row-more : (row s t : List Float) (i : ℕ) (x : Float) (k : ℕ) → rowAdded row s t i x (k + 1) ≡ rowAdded row s t i x k ⊕ at s i ⊗ at row k ⊗ at t k
 unfolding rowAdded
-row-more l s t i x k = rw add-one
+row-more row s t i x k = rw add-one
 
-pub rows-more : (l s t : List Float) (i : ℕ) → rowsAdded l s t (i + 1) ≡ rowAdded l s t i (rowsAdded l s t i) (length s)
+pub rows-more : (l s t : List Float) (i : ℕ) → rowsAdded l s t (i + 1) ≡ rowAdded (stretch l (length s) i) s t i (rowsAdded l s t i) (length s)
 unfolding rowsAdded
 rows-more l s t i = rw add-one
 
-pub flux-more : (map cs : List Float) (i k : ℕ) → fluxTo map cs i (k + 1) ≡ fluxTo map cs i k ⊕ at map (i * length cs + k) ⊗ at cs k
+pub flux-more : (row cs : List Float) (k : ℕ) → fluxTo row cs (k + 1) ≡ fluxTo row cs k ⊕ at row k ⊗ at cs k
 unfolding fluxTo
-flux-more map cs i k = rw add-one
+flux-more row cs k = rw add-one
 
 pub interaction-more : (map s cs : List Float) (n : ℕ) → interactionTo map s cs (n + 1) ≡ interactionTo map s cs n ⊕ at s n ⊗ rowFlux map cs n
 unfolding interactionTo

@@ -2,22 +2,27 @@
 use mathlib.Core.Path.{_≡_}
 use mathlib.Core.Bool.{Bool, not, _&&_, _||_}
 use mathlib.Core.List.{List, [], _∷_}
-use Prim.Native.Nat.{ℕ, zero, suc, _+_, _*_, _/_, _%_}
+use Prim.Native.Nat.{ℕ, zero, suc, _/_, _%_}
 use lib.Dec.{eqb}
 use lib.ListN.{length}
 use lib.Ieee.{Float}
 use Rattle.binary64.specs.Binary64.{_⊕_, _⊗_, at, plusZero}
 use Rattle.mesh.specs.Refusal.{Check, check, first, after, coefficients, mapLength, fluxLength}
 use Rattle.mesh.specs.Filling.{tabulate}
+use Rattle.linkage.specs.Stretch.{stretch}
 
--- the first k products of row i, added from +0 on
-unfoldable pub fluxTo : List Float → List Float → ℕ → ℕ → Float
-fluxTo map cs i zero = plusZero
-fluxTo map cs i (suc k) = fluxTo map cs i k ⊕ at map (i * length cs + k) ⊗ at cs k
+-- the first k products of a row and the coefficients, added from +0 on
+unfoldable pub fluxTo : List Float → List Float → ℕ → Float
+fluxTo row cs zero = plusZero
+fluxTo row cs (suc k) = fluxTo row cs k ⊕ at row k ⊗ at cs k
 
 -- the flux of one row
+abbrev pub fluxOfRow : List Float → List Float → Float
+fluxOfRow row cs = fluxTo row cs (length cs)
+
+-- the flux of row i of a map
 abbrev pub rowFlux : List Float → List Float → ℕ → Float
-rowFlux map cs i = fluxTo map cs i (length cs)
+rowFlux map cs i = fluxOfRow (stretch map (length cs) i) cs
 
 -- the flux of n rows
 abbrev pub fluxLinkage : List Float → List Float → ℕ → List Float

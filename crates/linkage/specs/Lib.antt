@@ -1,4 +1,5 @@
 pub mod Answer
+pub mod Stretch
 pub mod Energy
 pub mod Flux
 pub mod Row

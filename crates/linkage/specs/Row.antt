@@ -1,17 +1,14 @@
--- The row of a node in a matrix or a map, as a stretch of its numbers. Definitions only.
+-- The row of a node in a matrix or a map, or nothing on a refusal. Definitions only.
 use mathlib.Core.Bool.{cond}
 use mathlib.Core.List.{List, [], _∷_, _++_}
-use Prim.Native.Nat.{ℕ, _*_, _/_}
+use Prim.Native.Nat.{ℕ, _/_}
 use lib.Dec.{eqb, leb}
-use lib.ListN.{length, take, drop}
+use lib.ListN.{length}
 use lib.Ieee.{Float}
 use Rattle.mesh.specs.Refusal.{Check, check, first, coefficients, mapLength, noSuchNode}
+use Rattle.linkage.specs.Stretch.{stretch}
 use Rattle.linkage.specs.Energy.{matrixChecks}
 use Rattle.linkage.specs.Flux.{lacksSources, brokenRows}
-
--- w numbers from i · w on
-abbrev pub stretch : List Float → ℕ → ℕ → List Float
-stretch m w i = take w (drop (i * w) m)
 
 -- a row, or nothing on a refusal
 unfoldable pub rowAfter : ℕ → List Float → List Float

@@ -30,14 +30,14 @@ fn vectors_refusal(n: usize, targets: usize, size: usize) -> u32
 }
 
 // The products of row i, added to x one after the other.
-fn add_row(matrix: &[f64], s: &[f64], t: &[f64], i: usize, x: f64) -> f64
-    requires { ⌜ (length (now t) ≡ length (now s)) × (i < length (now s)) × (i * length (now s) + length (now s) ≤ length (now matrix)) ⌝ }
-    ensures { λ r. ⌜ r ≡ Spec.rowAdded (now (matrix .entry)) (now (s .entry)) (now (t .entry)) i x (length (now (s .entry))) ⌝ }
+fn add_row(row: &[f64], s: &[f64], t: &[f64], i: usize, x: f64) -> f64
+    requires { ⌜ (length (now t) ≡ length (now s)) × (i < length (now s)) × (length (now row) ≡ length (now s)) ⌝ }
+    ensures { λ r. ⌜ r ≡ Spec.rowAdded (now (row .entry)) (now (s .entry)) (now (t .entry)) i x (length (now (s .entry))) ⌝ }
 {
     let n = s.len();
     let mut out = x;
     for j in 0..n {
-        out = out + s[i] * matrix[i * n + j] * t[j];
+        out = out + s[i] * row[j] * t[j];
     }
     out
 }
@@ -50,7 +50,8 @@ fn add_rows(matrix: &[f64], s: &[f64], t: &[f64]) -> f64
     let n = s.len();
     let mut out = 0.0;
     for i in 0..n {
-        out = add_row(matrix, s, t, i, out);
+        let row = crate::row::stretch(matrix, n, i);
+        out = add_row(row, s, t, i, out);
     }
     out
 }

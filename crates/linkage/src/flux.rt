@@ -50,17 +50,26 @@ fn map_refusal(size: usize, sources: usize, nodes: usize) -> u32
     0
 }
 
-// The flux of one row.
-fn row_flux(map: &[f64], coefficients: &[f64], i: usize) -> f64
-    requires { ⌜ i * length (now coefficients) + length (now coefficients) ≤ length (now map) ⌝ }
-    ensures { λ r. ⌜ r ≡ Spec.rowFlux (now (map .entry)) (now (coefficients .entry)) i ⌝ }
+// The flux of one row: its products with the coefficients, added one after the other from +0 on.
+pub fn flux_of_row(row: &[f64], coefficients: &[f64]) -> f64
+    requires { ⌜ length (now row) ≡ length (now coefficients) ⌝ }
+    ensures { λ r. ⌜ r ≡ Spec.fluxOfRow (now (row .entry)) (now (coefficients .entry)) ⌝ }
 {
     let n = coefficients.len();
     let mut psi = 0.0;
     for k in 0..n {
-        psi = psi + map[i * n + k] * coefficients[k];
+        psi = psi + row[k] * coefficients[k];
     }
     psi
+}
+
+// The flux of row i of a map.
+fn row_flux(map: &[f64], coefficients: &[f64], i: usize) -> f64
+    requires { ⌜ i * length (now coefficients) + length (now coefficients) ≤ length (now map) ⌝ }
+    ensures { λ r. ⌜ r ≡ Spec.rowFlux (now (map .entry)) (now (coefficients .entry)) i ⌝ }
+{
+    let row = crate::row::stretch(map, coefficients.len(), i);
+    flux_of_row(row, coefficients)
 }
 
 // The flux of every row.

@@ -3,11 +3,12 @@ ghost use mathlib.Core.Path.{_≡_};
 ghost use Prim.Native.Nat.{_+_, _*_, _≤_};
 ghost use lib.ListN.{length};
 ghost use Rattle.linkage.specs.Row as Spec;
+ghost use Rattle.linkage.specs.Stretch as Stretch;
 
 // w numbers from i · w on.
-fn stretch(m: &[f64], w: usize, i: usize) -> &[f64]
+pub fn stretch(m: &[f64], w: usize, i: usize) -> &[f64]
     requires { ⌜ i * w + w ≤ length (now m) ⌝ }
-    ensures { λ r. ⌜ now r ≡ Spec.stretch (now (m .entry)) w i ⌝ }
+    ensures { λ r. ⌜ now r ≡ Stretch.stretch (now (m .entry)) w i ⌝ }
 {
     let start = i * w;
     let end = start + w;

@@ -10,10 +10,10 @@ use Rattle.linkage.proofs.energy.add_row.Statement.{statement}
 use Rattle.linkage.proofs.energy.add_row.Tie as tie
 
 abbrev Inv-loop : tie.InvT-loop
-Inv-loop matrix s t i x n out₀ j₀ out j = (j ≤ length s) × (out ≡ rowAdded matrix s t i x j)
+Inv-loop row s t i x n out₀ j₀ out j = (j ≤ length s) × (out ≡ rowAdded row s t i x j)
 
 abbrev μ-loop : tie.MeasureT-loop
-μ-loop matrix s t i x n out₀ j₀ out j = length s - j
+μ-loop row s t i x n out₀ j₀ out j = length s - j
 
 loop-holds : tie.Need-loop-holds Inv-loop μ-loop
 unfolding rowAdded
@@ -28,17 +28,11 @@ shared-slice-read-out c = search needs
 mul-out-2 : tie.Need-mul-out-2 Inv-loop μ-loop
 mul-out-2 c = search needs
 
-add-out : tie.Need-add-out Inv-loop μ-loop
-add-out c = search needs
-
 mul-out-3 : tie.Need-mul-out-3 Inv-loop μ-loop
 mul-out-3 c = search needs
 
 shared-slice-read-out-2 : tie.Need-shared-slice-read-out-2 Inv-loop μ-loop
 shared-slice-read-out-2 c = search needs
-
-mul-out-4 : tie.Need-mul-out-4 Inv-loop μ-loop
-mul-out-4 c = search needs
 
 shared-slice-read-out-3 : tie.Need-shared-slice-read-out-3 Inv-loop μ-loop
 shared-slice-read-out-3 c = search needs
@@ -61,5 +55,4 @@ returns c =
 pub add-row-spec : {M : Type 1} → statement M
 add-row-spec =
     tie.close
-    (tie.spec Inv-loop μ-loop loop-holds mul-out shared-slice-read-out mul-out-2 add-out mul-out-3 shared-slice-read-out-2 mul-out-4
-    shared-slice-read-out-3 add-j loop-less loop-again returns)
+    (tie.spec Inv-loop μ-loop loop-holds mul-out shared-slice-read-out mul-out-2 shared-slice-read-out-2 mul-out-3 shared-slice-read-out-3 add-j loop-less loop-again returns)

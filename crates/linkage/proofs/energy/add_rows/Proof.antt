@@ -7,7 +7,7 @@ use denote.Ref.{now}
 use lib.ListN.{length}
 use Rattle.linkage.specs.Energy.{rowsAdded}
 use Rattle.linkage.proofs.Sums.{rows-more}
-use Rattle.linkage.proofs.Sizes.{row-end}
+use Rattle.linkage.proofs.Sizes.{row-end, stretch-long}
 use Rattle.linkage.proofs.energy.add_rows.Statement.{statement}
 use Rattle.linkage.proofs.energy.add_rows.Tie as tie
 
@@ -21,12 +21,17 @@ loop-holds : tie.Need-loop-holds Inv-loop μ-loop
 unfolding rowsAdded
 loop-holds c = (search needs, refl)
 
-add-row-requires : tie.Need-add-row-requires Inv-loop μ-loop
-add-row-requires c κs =
+stretch-requires : tie.Need-stretch-requires Inv-loop μ-loop
+stretch-requires c κs =
     let a = c .before .before .before .before .before .args in
     let l = c .before .loop in
     let h : l .i < length (now (a .s)) = omega arith in
-    (c .before .before .before .before .before .pre .0, h, omega (arith, c .before .before .before .before .before .pre .1, row-end (length (now (a .s))) (length (now (a .s))) (l .i) h))
+    omega (arith, c .before .before .before .before .before .pre .1, row-end (length (now (a .s))) (length (now (a .s))) (l .i) h)
+
+add-row-requires : tie.Need-add-row-requires Inv-loop μ-loop
+add-row-requires c κs =
+    let p = c .before .before .before .before .before .before in
+    (p .pre .0, omega arith, rw (c .stretch .ensures) (stretch-long _ _ _ (stretch-requires (c .before) (c .stretch .lifetimes))))
 
 add-i : tie.Need-add-i Inv-loop μ-loop
 add-i c = search needs
@@ -35,7 +40,7 @@ loop-less : tie.Need-loop-less Inv-loop μ-loop
 loop-less c = search needs
 
 loop-again : tie.Need-loop-again Inv-loop μ-loop
-loop-again c = (search needs, rw (rows-more, ← c .before .before .loop .inv .1) (c .add-row .ensures))
+loop-again c = (search needs, rw (rows-more, ← c .before .before .before .loop .inv .1, ← c .before .stretch .ensures) (c .add-row .ensures))
 
 returns : tie.Need-returns Inv-loop μ-loop
 returns c =
@@ -46,4 +51,4 @@ returns c =
 pub add-rows-spec : {M : Type 1} → statement M
 add-rows-spec =
     tie.close
-    (tie.spec Inv-loop μ-loop loop-holds add-row-requires add-i loop-less loop-again returns)
+    (tie.spec Inv-loop μ-loop loop-holds stretch-requires add-row-requires add-i loop-less loop-again returns)

@@ -1,59 +1,17 @@
--- `psi` is the sum of the first k products.
-use mathlib.Core.Path.{_≡_, refl}
-use Prim.Native.Nat.{_≤_, _-_}
-use native.Mathlib.Omega.{arith}
-use borrow.Author.Needs.{needs}
+-- The row is a stretch of the map that is as long as the coefficients.
+use mathlib.Core.Path.{_∙_, ap}
+use denote.Ref.{now}
 use lib.ListN.{length}
-use Rattle.linkage.specs.Flux.{fluxTo}
-use Rattle.linkage.proofs.Sums.{flux-more}
+use Rattle.linkage.proofs.Sizes.{stretch-long}
+use borrow.Author.Needs.{needs}
 use Rattle.linkage.proofs.flux.row_flux.Statement.{statement}
 use Rattle.linkage.proofs.flux.row_flux.Tie as tie
 
-abbrev Inv-loop : tie.InvT-loop
-Inv-loop map coefficients i n psi₀ k₀ psi k = (k ≤ length coefficients) × (psi ≡ fluxTo map coefficients i k)
+flux-of-row-requires : tie.Need-flux-of-row-requires
+flux-of-row-requires c κs = rw (c .stretch .ensures) (stretch-long _ _ _ (c .before .before .before .pre))
 
-abbrev μ-loop : tie.MeasureT-loop
-μ-loop map coefficients i n psi₀ k₀ psi k = length coefficients - k
-
-loop-holds : tie.Need-loop-holds Inv-loop μ-loop
-unfolding fluxTo
-loop-holds c = (search needs, refl)
-
-mul-psi : tie.Need-mul-psi Inv-loop μ-loop
-mul-psi c = search needs
-
-add-psi : tie.Need-add-psi Inv-loop μ-loop
-add-psi c = search needs
-
-mul-psi-2 : tie.Need-mul-psi-2 Inv-loop μ-loop
-mul-psi-2 c = search needs
-
-shared-slice-read-psi : tie.Need-shared-slice-read-psi Inv-loop μ-loop
-shared-slice-read-psi c = search needs
-
-mul-psi-3 : tie.Need-mul-psi-3 Inv-loop μ-loop
-mul-psi-3 c = search needs
-
-shared-slice-read-psi-2 : tie.Need-shared-slice-read-psi-2 Inv-loop μ-loop
-shared-slice-read-psi-2 c = search needs
-
-add-k : tie.Need-add-k Inv-loop μ-loop
-add-k c = search needs
-
-loop-less : tie.Need-loop-less Inv-loop μ-loop
-loop-less c = search needs
-
-loop-again : tie.Need-loop-again Inv-loop μ-loop
-loop-again c = (search needs, rw (flux-more, ← c .before .before .before .loop .inv .1))
-
-returns : tie.Need-returns Inv-loop μ-loop
-returns c =
-    let l = c .before .loop in
-    let e : l .k ≡ length (c .before .before .args .coefficients .now) = omega arith in
-    rw (← e) (l .inv .1)
+returns : tie.Need-returns
+returns c = rw (← c .before .stretch .ensures) (c .flux-of-row .ensures)
 
 pub row-flux-spec : {M : Type 1} → statement M
-row-flux-spec =
-    tie.close
-    (tie.spec Inv-loop μ-loop loop-holds mul-psi add-psi mul-psi-2 shared-slice-read-psi mul-psi-3 shared-slice-read-psi-2 add-k loop-less loop-again
-    returns)
+row-flux-spec = tie.close (tie.spec (search needs) flux-of-row-requires returns)
