@@ -1,6 +1,6 @@
 // A matrix contracted with nodal values.
 ghost use mathlib.Core.Path.{_≡_};
-ghost use Prim.Native.Nat.{_<_, _≤_, _+_, _*_};
+ghost use Prim.Native.Nat.{_<_, _*_};
 ghost use lib.ListN.{length};
 ghost use Rattle.linkage.specs.Answer.{Answered};
 ghost use Rattle.linkage.specs.Energy as Spec;

@@ -1,7 +1,4 @@
 -- The row is a stretch of the map that is as long as the coefficients.
-use mathlib.Core.Path.{_∙_, ap}
-use denote.Ref.{now}
-use lib.ListN.{length}
 use Rattle.linkage.proofs.Sizes.{stretch-long}
 use borrow.Author.Needs.{needs}
 use Rattle.linkage.proofs.flux.row_flux.Statement.{statement}
