@@ -147,13 +147,13 @@ fn unpack(a: u64) -> Part
     }
 }
 
-// The two words shifted up by 1 where the leading bit is at place 125.
+// The two words shifted up by all of their leading zero bits but one, of which they have one or two.
 fn lift(hi: u64, lo: u64, g: u64) -> Scaled
     requires { ⌜ (hi < 2 ^ 63) × (2 ^ 125 ≤ hi * 2 ^ 64 + lo) ⌝ }
     requires { ⌜ 2 ≤ g ⌝ }
     ensures { λ r. ⌜ Lifted (hi * 2 ^ 64 + lo) g (r .hi * 2 ^ 64 + r .lo) (r .exp) ⌝ }
 {
-    let s = 1 - (hi >> 62);
+    let s = u64::leading_zeros(hi) as u64 - 1;
     Scaled {
         hi: (hi << s) | ((lo >> 63) & s),
         lo: lo << s,
