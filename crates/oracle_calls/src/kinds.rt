@@ -9,7 +9,7 @@ use replay_calls::vectors;
 use replay_cases::case;
 
 // Whether the results of a case of fixed length are ours, from its numbers and its words.
-fn calls_agree(kind: u64, f: &[f64; 512], w: &[u64; 512]) -> bool
+fn calls_agree(kind: u64, f: &[f64; 2048], w: &[u64; 2048]) -> bool
     ensures { λ r. ⌜ r ≡ Spec.callsAgreeAll kind (now (f .entry)) (now (w .entry)) ⌝ }
 {
     let a = numbers::agree(kind, f, w);
@@ -21,7 +21,7 @@ fn calls_agree(kind: u64, f: &[f64; 512], w: &[u64; 512]) -> bool
 }
 
 // Whether a case's results are ours, from its kind and its bytes behind the head.
-pub fn agrees(kind: u64, b: &[u8; 4096]) -> bool
+pub fn agrees(kind: u64, b: &[u8; 16384]) -> bool
     ensures { λ r. ⌜ r ≡ Spec.agrees kind (now (b .entry)) ⌝ }
 {
     let w = case::words(b);

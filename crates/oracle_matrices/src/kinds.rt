@@ -4,7 +4,7 @@ ghost use Rattle.oracle_matrices.specs.Kinds as Spec;
 use replay_cases::case;
 
 // Whether the results of a case with a matrix are ours, from its numbers, its places and its words.
-fn matrices_agree(kind: u64, f: &[f64; 512], u: &[usize; 512], w: &[u64; 512]) -> bool
+fn matrices_agree(kind: u64, f: &[f64; 2048], u: &[usize; 2048], w: &[u64; 2048]) -> bool
     ensures { λ r. ⌜ r ≡ Spec.matricesAgreeAll kind (now (f .entry)) (now (u .entry)) (now (w .entry)) ⌝ }
 {
     let a = replay_matrices::agree(kind, f, u, w);
@@ -13,7 +13,7 @@ fn matrices_agree(kind: u64, f: &[f64; 512], u: &[usize; 512], w: &[u64; 512]) -
 }
 
 // Whether a case's results are ours, from its kind and its bytes behind the head.
-pub fn agrees(kind: u64, b: &[u8; 4096]) -> bool
+pub fn agrees(kind: u64, b: &[u8; 16384]) -> bool
     ensures { λ r. ⌜ r ≡ Spec.agrees kind (now (b .entry)) ⌝ }
 {
     let w = case::words(b);

@@ -8,7 +8,7 @@ use replay_maps::shown;
 use replay_meshes::columns;
 
 // Whether a case's results are ours, from its kind and its bytes behind the head.
-pub fn agrees(kind: u64, b: &[u8; 4096]) -> bool
+pub fn agrees(kind: u64, b: &[u8; 16384]) -> bool
     ensures { λ r. ⌜ r ≡ Spec.agrees kind (now (b .entry)) ⌝ }
 {
     let w = case::words(b);

@@ -11,7 +11,7 @@ use replay_words::words::same_vector;
 use replay_words::words::same_word;
 use replay_words::words::triangle;
 
-pub fn geometric_coupling(f: &[f64; 512], w: &[u64; 512]) -> bool
+pub fn geometric_coupling(f: &[f64; 2048], w: &[u64; 2048]) -> bool
     ensures { λ r. ⌜ r ≡ Spec.geometricCoupling (now (f .entry)) (now (w .entry)) ⌝ }
 {
     let rule = rule_of(w[0]);
@@ -19,7 +19,7 @@ pub fn geometric_coupling(f: &[f64; 512], w: &[u64; 512]) -> bool
     same_value(a.refusal, a.value, w, 19)
 }
 
-pub fn geometric_coupling_regular(f: &[f64; 512], w: &[u64; 512]) -> bool
+pub fn geometric_coupling_regular(f: &[f64; 2048], w: &[u64; 2048]) -> bool
     ensures { λ r. ⌜ r ≡ Spec.geometricCouplingRegular (now (f .entry)) (now (w .entry)) ⌝ }
 {
     let rule = rule_of(w[0]);
@@ -31,7 +31,7 @@ pub fn geometric_coupling_regular(f: &[f64; 512], w: &[u64; 512]) -> bool
     same_value(a.refusal, a.value, w, 19)
 }
 
-pub fn mutual_inductance_block(f: &[f64; 512], w: &[u64; 512]) -> bool
+pub fn mutual_inductance_block(f: &[f64; 2048], w: &[u64; 2048]) -> bool
     ensures { λ r. ⌜ r ≡ Spec.mutualInductanceBlock (now (f .entry)) (now (w .entry)) ⌝ }
 {
     let rule = rule_of(w[0]);
@@ -46,7 +46,7 @@ pub fn mutual_inductance_block(f: &[f64; 512], w: &[u64; 512]) -> bool
     (refusal) & (cells)
 }
 
-pub fn mutual_inductance(f: &[f64; 512], w: &[u64; 512]) -> bool
+pub fn mutual_inductance(f: &[f64; 2048], w: &[u64; 2048]) -> bool
     ensures { λ r. ⌜ r ≡ Spec.mutualInductance (now (f .entry)) (now (w .entry)) ⌝ }
 {
     let rule = rule_of(w[0]);
@@ -62,7 +62,7 @@ pub fn mutual_inductance(f: &[f64; 512], w: &[u64; 512]) -> bool
     same_value(a.refusal, a.value, w, 21)
 }
 
-pub fn bisect(f: &[f64; 512], w: &[u64; 512]) -> bool
+pub fn bisect(f: &[f64; 2048], w: &[u64; 2048]) -> bool
     ensures { λ r. ⌜ r ≡ Spec.bisect (now (f .entry)) (now (w .entry)) ⌝ }
 {
     let h = panel_distance::bisection::longest_edge_bisection(triangle(f, 0));
@@ -71,7 +71,7 @@ pub fn bisect(f: &[f64; 512], w: &[u64; 512]) -> bool
     (a) & (b)
 }
 
-pub fn panel_record(f: &[f64; 512], w: &[u64; 512]) -> bool
+pub fn panel_record(f: &[f64; 2048], w: &[u64; 2048]) -> bool
     ensures { λ r. ⌜ r ≡ Spec.panelRecord (now (f .entry)) (now (w .entry)) ⌝ }
 {
     let p = UniformTriangle::new(triangle(f, 0));
@@ -90,7 +90,7 @@ pub fn panel_record(f: &[f64; 512], w: &[u64; 512]) -> bool
 }
 
 // By the kind's number.
-pub fn agree(kind: u64, f: &[f64; 512], w: &[u64; 512]) -> bool
+pub fn agree(kind: u64, f: &[f64; 2048], w: &[u64; 2048]) -> bool
     ensures { λ r. ⌜ r ≡ Spec.callsAgree kind (now (f .entry)) (now (w .entry)) ⌝ }
 {
     if kind == 17 {

@@ -7,7 +7,7 @@ use replay_words::words::same_number;
 use replay_words::words::triangle;
 use replay_words::words::vector;
 
-pub fn identical(f: &[f64; 512], w: &[u64; 512]) -> bool
+pub fn identical(f: &[f64; 2048], w: &[u64; 2048]) -> bool
     ensures { λ r. ⌜ r ≡ Spec.identical (now (f .entry)) (now (w .entry)) ⌝ }
 {
     same_flag(
@@ -17,7 +17,7 @@ pub fn identical(f: &[f64; 512], w: &[u64; 512]) -> bool
     )
 }
 
-pub fn box_distance(f: &[f64; 512], w: &[u64; 512]) -> bool
+pub fn box_distance(f: &[f64; 2048], w: &[u64; 2048]) -> bool
     ensures { λ r. ⌜ r ≡ Spec.boxDistance (now (f .entry)) (now (w .entry)) ⌝ }
 {
     same_number(
@@ -27,7 +27,7 @@ pub fn box_distance(f: &[f64; 512], w: &[u64; 512]) -> bool
     )
 }
 
-pub fn panel_distance(f: &[f64; 512], w: &[u64; 512]) -> bool
+pub fn panel_distance(f: &[f64; 2048], w: &[u64; 2048]) -> bool
     ensures { λ r. ⌜ r ≡ Spec.panelDistance (now (f .entry)) (now (w .entry)) ⌝ }
 {
     same_number(
@@ -37,7 +37,7 @@ pub fn panel_distance(f: &[f64; 512], w: &[u64; 512]) -> bool
     )
 }
 
-pub fn longest_edge(f: &[f64; 512], w: &[u64; 512]) -> bool
+pub fn longest_edge(f: &[f64; 2048], w: &[u64; 2048]) -> bool
     ensures { λ r. ⌜ r ≡ Spec.longestEdge (now (f .entry)) (now (w .entry)) ⌝ }
 {
     same_number(
@@ -47,7 +47,7 @@ pub fn longest_edge(f: &[f64; 512], w: &[u64; 512]) -> bool
     )
 }
 
-pub fn is_far(f: &[f64; 512], w: &[u64; 512]) -> bool
+pub fn is_far(f: &[f64; 2048], w: &[u64; 2048]) -> bool
     ensures { λ r. ⌜ r ≡ Spec.isFar (now (f .entry)) (now (w .entry)) ⌝ }
 {
     same_flag(
@@ -57,7 +57,7 @@ pub fn is_far(f: &[f64; 512], w: &[u64; 512]) -> bool
     )
 }
 
-pub fn point_distance(f: &[f64; 512], w: &[u64; 512]) -> bool
+pub fn point_distance(f: &[f64; 2048], w: &[u64; 2048]) -> bool
     ensures { λ r. ⌜ r ≡ Spec.pointDistance (now (f .entry)) (now (w .entry)) ⌝ }
 {
     same_number(
@@ -67,7 +67,7 @@ pub fn point_distance(f: &[f64; 512], w: &[u64; 512]) -> bool
     )
 }
 
-pub fn segment_distance(f: &[f64; 512], w: &[u64; 512]) -> bool
+pub fn segment_distance(f: &[f64; 2048], w: &[u64; 2048]) -> bool
     ensures { λ r. ⌜ r ≡ Spec.segmentDistance (now (f .entry)) (now (w .entry)) ⌝ }
 {
     same_number(
@@ -82,7 +82,7 @@ pub fn segment_distance(f: &[f64; 512], w: &[u64; 512]) -> bool
     )
 }
 
-pub fn block_energy(f: &[f64; 512], w: &[u64; 512]) -> bool
+pub fn block_energy(f: &[f64; 2048], w: &[u64; 2048]) -> bool
     ensures { λ r. ⌜ r ≡ Spec.blockEnergy (now (f .entry)) (now (w .entry)) ⌝ }
 {
     same_number(
@@ -97,7 +97,7 @@ pub fn block_energy(f: &[f64; 512], w: &[u64; 512]) -> bool
 }
 
 // By the kind's number.
-pub fn agree(kind: u64, f: &[f64; 512], w: &[u64; 512]) -> bool
+pub fn agree(kind: u64, f: &[f64; 2048], w: &[u64; 2048]) -> bool
     ensures { λ r. ⌜ r ≡ Spec.pairsAgree kind (now (f .entry)) (now (w .entry)) ⌝ }
 {
     if kind == 41 {

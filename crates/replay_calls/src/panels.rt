@@ -10,7 +10,7 @@ use replay_words::words::same_vector;
 use replay_words::words::triangle;
 use replay_words::words::vector;
 
-pub fn closest_point(f: &[f64; 512], w: &[u64; 512]) -> bool
+pub fn closest_point(f: &[f64; 2048], w: &[u64; 2048]) -> bool
     ensures { λ r. ⌜ r ≡ Spec.closestPoint (now (f .entry)) (now (w .entry)) ⌝ }
 {
     same_vector(
@@ -20,19 +20,19 @@ pub fn closest_point(f: &[f64; 512], w: &[u64; 512]) -> bool
     )
 }
 
-pub fn area(f: &[f64; 512], w: &[u64; 512]) -> bool
+pub fn area(f: &[f64; 2048], w: &[u64; 2048]) -> bool
     ensures { λ r. ⌜ r ≡ Spec.area (now (f .entry)) (now (w .entry)) ⌝ }
 {
     same_number(tri::mapping::area(triangle(f, 0)), w, 9)
 }
 
-pub fn quality(f: &[f64; 512], w: &[u64; 512]) -> bool
+pub fn quality(f: &[f64; 2048], w: &[u64; 2048]) -> bool
     ensures { λ r. ⌜ r ≡ Spec.quality (now (f .entry)) (now (w .entry)) ⌝ }
 {
     same_number(mesh::triangle_quality(triangle(f, 0)), w, 9)
 }
 
-pub fn potential(f: &[f64; 512], w: &[u64; 512]) -> bool
+pub fn potential(f: &[f64; 2048], w: &[u64; 2048]) -> bool
     ensures { λ r. ⌜ r ≡ Spec.potential (now (f .entry)) (now (w .entry)) ⌝ }
 {
     same_number(
@@ -42,7 +42,7 @@ pub fn potential(f: &[f64; 512], w: &[u64; 512]) -> bool
     )
 }
 
-pub fn gradient(f: &[f64; 512], w: &[u64; 512]) -> bool
+pub fn gradient(f: &[f64; 2048], w: &[u64; 2048]) -> bool
     ensures { λ r. ⌜ r ≡ Spec.gradient (now (f .entry)) (now (w .entry)) ⌝ }
 {
     same_vector(
@@ -52,7 +52,7 @@ pub fn gradient(f: &[f64; 512], w: &[u64; 512]) -> bool
     )
 }
 
-pub fn contact(f: &[f64; 512], w: &[u64; 512]) -> bool
+pub fn contact(f: &[f64; 2048], w: &[u64; 2048]) -> bool
     ensures { λ r. ⌜ r ≡ Spec.contact (now (f .entry)) (now (w .entry)) ⌝ }
 {
     same_flag(
@@ -62,7 +62,7 @@ pub fn contact(f: &[f64; 512], w: &[u64; 512]) -> bool
     )
 }
 
-pub fn basis_densities(f: &[f64; 512], w: &[u64; 512]) -> bool
+pub fn basis_densities(f: &[f64; 2048], w: &[u64; 2048]) -> bool
     ensures { λ r. ⌜ r ≡ Spec.basisDensities (now (f .entry)) (now (w .entry)) ⌝ }
 {
     same_triangle(
@@ -72,7 +72,7 @@ pub fn basis_densities(f: &[f64; 512], w: &[u64; 512]) -> bool
     )
 }
 
-pub fn panel_density(f: &[f64; 512], w: &[u64; 512]) -> bool
+pub fn panel_density(f: &[f64; 2048], w: &[u64; 2048]) -> bool
     ensures { λ r. ⌜ r ≡ Spec.panelDensity (now (f .entry)) (now (w .entry)) ⌝ }
 {
     same_vector(
@@ -82,20 +82,20 @@ pub fn panel_density(f: &[f64; 512], w: &[u64; 512]) -> bool
     )
 }
 
-pub fn map_point(f: &[f64; 512], w: &[u64; 512]) -> bool
+pub fn map_point(f: &[f64; 2048], w: &[u64; 2048]) -> bool
     ensures { λ r. ⌜ r ≡ Spec.mapPoint (now (f .entry)) (now (w .entry)) ⌝ }
 {
     same_vector(tri::mapping::map_point(triangle(f, 0), f[9], f[10]), w, 11)
 }
 
-pub fn normal(f: &[f64; 512], w: &[u64; 512]) -> bool
+pub fn normal(f: &[f64; 2048], w: &[u64; 2048]) -> bool
     ensures { λ r. ⌜ r ≡ Spec.normal (now (f .entry)) (now (w .entry)) ⌝ }
 {
     same_vector(tri::mapping::normal(triangle(f, 0)), w, 9)
 }
 
 // By the kind's number.
-pub fn agree(kind: u64, f: &[f64; 512], w: &[u64; 512]) -> bool
+pub fn agree(kind: u64, f: &[f64; 2048], w: &[u64; 2048]) -> bool
     ensures { λ r. ⌜ r ≡ Spec.panelsAgree kind (now (f .entry)) (now (w .entry)) ⌝ }
 {
     if kind == 9 {

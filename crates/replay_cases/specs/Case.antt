@@ -14,7 +14,7 @@ use Rattle.replay_words.specs.Words.{sizeOf}
 unfoldable pub kindOf : List ℕ → ℕ
 kindOf h =
     let kind = littleEndian 4 h 0 in
-    cond (ltb 63 kind) 64 (cond (ltb 512 (sizeOf (littleEndian 4 h 4) (littleEndian 8 h 8))) 64 kind)
+    cond (ltb 63 kind) 64 (cond (ltb 2048 (sizeOf (littleEndian 4 h 4) (littleEndian 8 h 8))) 64 kind)
 
 abbrev pub wordAt : List ℕ → ℕ → ℕ
 wordAt b k = littleEndian 8 b (k * 8)
@@ -25,12 +25,12 @@ numberAt w k = bits (getD w k 0)
 abbrev pub placeAt : List ℕ → ℕ → ℕ
 placeAt w k = getD w k 0
 
--- 512 of each
+-- 2,048 of each
 unfoldable pub wordsOf : List ℕ → List ℕ
-wordsOf b = tabulate 512 (wordAt b)
+wordsOf b = tabulate 2048 (wordAt b)
 
 unfoldable pub numbersOf : List ℕ → List Float
-numbersOf w = tabulate 512 (numberAt w)
+numbersOf w = tabulate 2048 (numberAt w)
 
 unfoldable pub placesOf : List ℕ → List ℕ
-placesOf w = tabulate 512 (placeAt w)
+placesOf w = tabulate 2048 (placeAt w)

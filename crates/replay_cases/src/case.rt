@@ -14,75 +14,75 @@ pub fn kind(head: &[u8]) -> u64
     panel_file::little_endian(head, 0, 4)
 }
 
-// How many words of input and of results follow them, or 513 if these are more than 512.
+// How many words of input and of results follow them, or 2,049 if these are more than 2,048.
 pub fn size(head: &[u8]) -> usize
     requires { ⌜ 16 ≤ length (now head) ⌝ }
     ensures { λ r. ⌜ r ≡ sizeOf (littleEndian 4 (now (head .entry)) 4) (littleEndian 8 (now (head .entry)) 8) ⌝ }
-    ensures { λ r. ⌜ r ≤ 513 ⌝ }
+    ensures { λ r. ⌜ r ≤ 2049 ⌝ }
 {
     let inputs = panel_file::little_endian(head, 4, 4);
     let results = panel_file::little_endian(head, 8, 8);
-    if inputs > 512 {
-        return 513;
+    if inputs > 2048 {
+        return 2049;
     }
-    if results > 512 - inputs {
-        return 513;
+    if results > 2048 - inputs {
+        return 2049;
     }
     (inputs + results) as usize
 }
 
-fn word_at(b: &[u8; 4096], k: usize) -> u64
-    requires { ⌜ k < 512 ⌝ }
+fn word_at(b: &[u8; 16384], k: usize) -> u64
+    requires { ⌜ k < 2048 ⌝ }
     ensures { λ r. ⌜ r ≡ Spec.wordAt (now (b .entry)) k ⌝ }
 {
     let all = &b[..];
     panel_file::little_endian(all, k * 8, 8)
 }
 
-fn number_at(w: &[u64; 512], k: usize) -> f64
-    requires { ⌜ k < 512 ⌝ }
+fn number_at(w: &[u64; 2048], k: usize) -> f64
+    requires { ⌜ k < 2048 ⌝ }
     ensures { λ r. ⌜ r ≡ Spec.numberAt (now (w .entry)) k ⌝ }
 {
     panel_file::from_bits(w[k])
 }
 
-fn place_at(w: &[u64; 512], k: usize) -> usize
-    requires { ⌜ k < 512 ⌝ }
+fn place_at(w: &[u64; 2048], k: usize) -> usize
+    requires { ⌜ k < 2048 ⌝ }
     ensures { λ r. ⌜ r ≡ Spec.placeAt (now (w .entry)) k ⌝ }
 {
     w[k] as usize
 }
 
-pub fn words(b: &[u8; 4096]) -> [u64; 512]
+pub fn words(b: &[u8; 16384]) -> [u64; 2048]
     ensures { λ r. ⌜ r ≡ Spec.wordsOf (now (b .entry)) ⌝ }
 {
-    let mut w = [0u64; 512];
+    let mut w = [0u64; 2048];
     let mut i = 0usize;
-    while i < 512 {
+    while i < 2048 {
         w[i] = word_at(b, i);
         i += 1;
     }
     w
 }
 
-pub fn numbers(w: &[u64; 512]) -> [f64; 512]
+pub fn numbers(w: &[u64; 2048]) -> [f64; 2048]
     ensures { λ r. ⌜ r ≡ Spec.numbersOf (now (w .entry)) ⌝ }
 {
-    let mut f = [0.0f64; 512];
+    let mut f = [0.0f64; 2048];
     let mut i = 0usize;
-    while i < 512 {
+    while i < 2048 {
         f[i] = number_at(w, i);
         i += 1;
     }
     f
 }
 
-pub fn places(w: &[u64; 512]) -> [usize; 512]
+pub fn places(w: &[u64; 2048]) -> [usize; 2048]
     ensures { λ r. ⌜ r ≡ Spec.placesOf (now (w .entry)) ⌝ }
 {
-    let mut u = [0usize; 512];
+    let mut u = [0usize; 2048];
     let mut i = 0usize;
-    while i < 512 {
+    while i < 2048 {
         u[i] = place_at(w, i);
         i += 1;
     }

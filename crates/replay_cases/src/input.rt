@@ -8,7 +8,7 @@ use crate::case;
 // A case by its kind and its bytes behind the head, with zeros behind these; of kind 64 where there is none.
 pub struct Case {
     pub kind: usize,
-    pub bytes: [u8; 4096],
+    pub bytes: [u8; 16384],
 }
 
 // Reads the file's mark.
@@ -18,20 +18,20 @@ pub fn mark() {
 }
 
 // The bytes behind a head that says so many words.
-fn bytes(size: usize) -> [u8; 4096]
-    requires { ⌜ size ≤ 512 ⌝ }
+fn bytes(size: usize) -> [u8; 16384]
+    requires { ⌜ size ≤ 2048 ⌝ }
 {
-    let mut b = [0u8; 4096];
+    let mut b = [0u8; 16384];
     io::read_full(0, &mut b[0..size * 8]);
     b
 }
 
 fn none() -> Case
-    ensures { λ r. ⌜ (r .kind ≡ 64) × (r .bytes ≡ replicate 4096 0) ⌝ }
+    ensures { λ r. ⌜ (r .kind ≡ 64) × (r .bytes ≡ replicate 16384 0) ⌝ }
 {
     Case {
         kind: 64,
-        bytes: [0u8; 4096],
+        bytes: [0u8; 16384],
     }
 }
 
@@ -45,7 +45,7 @@ fn behind(head: &[u8; 16]) -> Case
     if kind > 63 {
         return none();
     }
-    if size > 512 {
+    if size > 2048 {
         return none();
     }
     Case {

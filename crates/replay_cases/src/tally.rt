@@ -1,6 +1,5 @@
 // How many cases of each kind there are, and how many differ.
 ghost use mathlib.Core.Path.{_≡_};
-ghost use mathlib.Core.Bool.{cond};
 ghost use Prim.Native.Nat.{_<_};
 ghost use Rattle.replay_cases.specs.Tally as Spec;
 
@@ -24,7 +23,7 @@ fn add_one(counts: &mut [u64; 64], k: usize)
 pub fn count(cases: &mut [u64; 64], differ: &mut [u64; 64], k: usize, agrees: bool)
     requires { ⌜ k < 64 ⌝ }
     ensures { λ _. ⌜ now (cases .exit) ≡ Spec.counted (now (cases .entry)) k ⌝ }
-    ensures { λ _. ⌜ now (differ .exit) ≡ cond agrees (now (differ .entry)) (Spec.counted (now (differ .entry)) k) ⌝ }
+    ensures { λ _. ⌜ now (differ .exit) ≡ Spec.judged agrees (now (differ .entry)) k ⌝ }
 {
     add_one(cases, k);
     if agrees {

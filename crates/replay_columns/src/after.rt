@@ -15,10 +15,10 @@ fn kept_columns(
     x0: &[f64],
     y0: &[f64],
     z0: &[f64],
-    w: &[u64; 512],
+    w: &[u64; 2048],
     k: usize,
 ) -> bool
-    requires { ⌜ k + length (now x) + length (now y) + length (now z) ≤ 512 ⌝ }
+    requires { ⌜ k + length (now x) + length (now y) + length (now z) ≤ 2048 ⌝ }
     requires { ⌜ (length (now x) ≡ length (now x0)) × (length (now y) ≡ length (now y0)) × (length (now z) ≡ length (now z0)) ⌝ }
     ensures { λ r. ⌜ r ≡ Spec.keptColumns refusal (now (x .entry)) (now (y .entry)) (now (z .entry)) (now (x0 .entry)) (now (y0 .entry)) (now (z0 .entry)) (now (w .entry)) k ⌝ }
 {
@@ -42,10 +42,10 @@ pub fn left_as_due(
     y0: &[f64],
     z0: &[f64],
     cells0: &[f64],
-    w: &[u64; 512],
+    w: &[u64; 2048],
     k: usize,
 ) -> bool
-    requires { ⌜ k + 2 + length (now cells) + length (now x) + length (now y) + length (now z) ≤ 512 ⌝ }
+    requires { ⌜ k + 2 + length (now cells) + length (now x) + length (now y) + length (now z) ≤ 2048 ⌝ }
     requires { ⌜ (length (now x) ≡ length (now x0)) × (length (now y) ≡ length (now y0)) × (length (now z) ≡ length (now z0)) × (length (now cells) ≡ length (now cells0)) ⌝ }
     ensures { λ r. ⌜ r ≡ Spec.leftAsDue refusal count (now (x .entry)) (now (y .entry)) (now (z .entry)) (now (cells .entry)) (now (x0 .entry)) (now (y0 .entry)) (now (z0 .entry)) (now (cells0 .entry)) (now (w .entry)) k ⌝ }
 {

@@ -11,8 +11,8 @@ use replay_words::words::cut_at;
 use replay_words::words::length_at;
 use replay_words::words::same_word;
 
-fn held_nodes(refusal: u32, x: &[f64], y: &[f64], z: &[f64], w: &[u64; 512], k: usize) -> bool
-    requires { ⌜ k + length (now x) + length (now y) + length (now z) ≤ 512 ⌝ }
+fn held_nodes(refusal: u32, x: &[f64], y: &[f64], z: &[f64], w: &[u64; 2048], k: usize) -> bool
+    requires { ⌜ k + length (now x) + length (now y) + length (now z) ≤ 2048 ⌝ }
     ensures { λ r. ⌜ r ≡ Spec.heldNodes refusal (now (x .entry)) (now (y .entry)) (now (z .entry)) (now (w .entry)) k ⌝ }
 {
     let p = k + x.len();
@@ -28,10 +28,10 @@ fn held_panels(
     t0: &[usize],
     t1: &[usize],
     t2: &[usize],
-    w: &[u64; 512],
+    w: &[u64; 2048],
     k: usize,
 ) -> bool
-    requires { ⌜ k + length (now t0) + length (now t1) + length (now t2) ≤ 512 ⌝ }
+    requires { ⌜ k + length (now t0) + length (now t1) + length (now t2) ≤ 2048 ⌝ }
     ensures { λ r. ⌜ r ≡ Spec.heldPanels refusal (now (t0 .entry)) (now (t1 .entry)) (now (t2 .entry)) (now (w .entry)) k ⌝ }
 {
     let p = k + t0.len();
@@ -51,7 +51,7 @@ fn held_columns(
     t0: &[usize],
     t1: &[usize],
     t2: &[usize],
-    w: &[u64; 512],
+    w: &[u64; 2048],
     k: usize,
 ) -> bool
     requires { ⌜ (length (now x) ≤ 64) × (length (now y) ≤ 64) × (length (now z) ≤ 64) × (length (now t0) ≤ 64) × (length (now t1) ≤ 64) × (length (now t2) ≤ 64) × (k ≤ 80) ⌝ }
@@ -73,7 +73,7 @@ fn read_file_into(
     t0: &mut [usize],
     t1: &mut [usize],
     t2: &mut [usize],
-    w: &[u64; 512],
+    w: &[u64; 2048],
     k: usize,
 ) -> bool
     requires { ⌜ (length (now x) ≤ 64) × (length (now y) ≤ 64) × (length (now z) ≤ 64) × (length (now t0) ≤ 64) × (length (now t1) ≤ 64) × (length (now t2) ≤ 64) × (k ≤ 80) ⌝ }
@@ -89,7 +89,7 @@ fn read_panels_into(
     x: &mut [f64],
     y: &mut [f64],
     z: &mut [f64],
-    w: &[u64; 512],
+    w: &[u64; 2048],
     q: usize,
 ) -> bool
     requires { ⌜ (length (now x) ≤ 64) × (length (now y) ≤ 64) × (length (now z) ≤ 64) × (q ≤ 65) ⌝ }
@@ -115,7 +115,7 @@ fn read_panels_into(
 }
 
 // The six lengths begin at place q.
-fn read_file_of(bytes: &[u8], w: &[u64; 512], q: usize) -> bool
+fn read_file_of(bytes: &[u8], w: &[u64; 2048], q: usize) -> bool
     requires { ⌜ q ≤ 65 ⌝ }
     ensures { λ r. ⌜ r ≡ Spec.readFileOf (now (bytes .entry)) (now (w .entry)) q ⌝ }
 {
@@ -128,7 +128,7 @@ fn read_file_of(bytes: &[u8], w: &[u64; 512], q: usize) -> bool
     read_panels_into(bytes, &mut x[0..nx], &mut y[0..ny], &mut z[0..nz], w, q)
 }
 
-fn read_file(b: &[u8; 4096], w: &[u64; 512]) -> bool
+fn read_file(b: &[u8; 16384], w: &[u64; 2048]) -> bool
     ensures { λ r. ⌜ r ≡ Spec.readFile (now (b .entry)) (now (w .entry)) ⌝ }
 {
     let n = cut_at(w, 0, 512);
@@ -146,7 +146,7 @@ fn prints(input: &[u8], stored: &[u8]) -> bool
     same_bytes(&output[..k], stored)
 }
 
-fn density_program(b: &[u8; 4096], w: &[u64; 512]) -> bool
+fn density_program(b: &[u8; 16384], w: &[u64; 2048]) -> bool
     ensures { λ r. ⌜ r ≡ Spec.densityProgram (now (b .entry)) (now (w .entry)) ⌝ }
 {
     let n = cut_at(w, 0, 512);
@@ -158,7 +158,7 @@ fn density_program(b: &[u8; 4096], w: &[u64; 512]) -> bool
 }
 
 // By the kind's number.
-pub fn agree(kind: u64, b: &[u8; 4096], w: &[u64; 512]) -> bool
+pub fn agree(kind: u64, b: &[u8; 16384], w: &[u64; 2048]) -> bool
     ensures { λ r. ⌜ r ≡ Spec.filesAgree kind (now (b .entry)) (now (w .entry)) ⌝ }
 {
     if kind == 33 {

@@ -8,8 +8,8 @@ use replay_words::words::length_at;
 use replay_words::words::same_word;
 
 // The call, its number and its buffer compared.
-fn flux_into(map: &[f64], cs: &[f64], out: &mut [f64], w: &[u64; 512], k: usize) -> bool
-    requires { ⌜ k + 1 + length (now out) ≤ 512 ⌝ }
+fn flux_into(map: &[f64], cs: &[f64], out: &mut [f64], w: &[u64; 2048], k: usize) -> bool
+    requires { ⌜ k + 1 + length (now out) ≤ 2048 ⌝ }
     ensures { λ r. ⌜ r ≡ Spec.fluxInto (now (map .entry)) (now (cs .entry)) (now (out .entry)) (now (w .entry)) k ⌝ }
 {
     let refusal = linkage::flux::triangle_mesh_flux_linkage_from_source_coefficients(map, cs, out);
@@ -18,7 +18,7 @@ fn flux_into(map: &[f64], cs: &[f64], out: &mut [f64], w: &[u64; 512], k: usize)
     (a) & (b)
 }
 
-pub fn flux(f: &[f64; 512], w: &[u64; 512]) -> bool
+pub fn flux(f: &[f64; 2048], w: &[u64; 2048]) -> bool
     ensures { λ r. ⌜ r ≡ Spec.flux (now (f .entry)) (now (w .entry)) ⌝ }
 {
     let n = length_at(w, 0);

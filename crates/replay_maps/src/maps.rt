@@ -5,7 +5,7 @@ use crate::fluxes::flux;
 use replay_words::words::length_at;
 use replay_words::words::same_value;
 
-pub fn energy1(f: &[f64; 512], w: &[u64; 512]) -> bool
+pub fn energy1(f: &[f64; 2048], w: &[u64; 2048]) -> bool
     ensures { λ r. ⌜ r ≡ Spec.energy1 (now (f .entry)) (now (w .entry)) ⌝ }
 {
     let n = length_at(w, 0);
@@ -17,7 +17,7 @@ pub fn energy1(f: &[f64; 512], w: &[u64; 512]) -> bool
     same_value(a.refusal, a.value, w, n + m + 2)
 }
 
-pub fn energy2(f: &[f64; 512], w: &[u64; 512]) -> bool
+pub fn energy2(f: &[f64; 2048], w: &[u64; 2048]) -> bool
     ensures { λ r. ⌜ r ≡ Spec.energy2 (now (f .entry)) (now (w .entry)) ⌝ }
 {
     let n = length_at(w, 0);
@@ -31,7 +31,7 @@ pub fn energy2(f: &[f64; 512], w: &[u64; 512]) -> bool
     same_value(a.refusal, a.value, w, n + m + 3 + p)
 }
 
-pub fn interaction(f: &[f64; 512], w: &[u64; 512]) -> bool
+pub fn interaction(f: &[f64; 2048], w: &[u64; 2048]) -> bool
     ensures { λ r. ⌜ r ≡ Spec.interaction (now (f .entry)) (now (w .entry)) ⌝ }
 {
     let n = length_at(w, 0);
@@ -50,7 +50,7 @@ pub fn interaction(f: &[f64; 512], w: &[u64; 512]) -> bool
 }
 
 // By the kind's number.
-pub fn agree(kind: u64, f: &[f64; 512], w: &[u64; 512]) -> bool
+pub fn agree(kind: u64, f: &[f64; 2048], w: &[u64; 2048]) -> bool
     ensures { λ r. ⌜ r ≡ Spec.mapsAgree kind (now (f .entry)) (now (w .entry)) ⌝ }
 {
     if kind == 26 {

@@ -4,7 +4,7 @@ ghost use Rattle.replay_maps.specs.Maps as Spec;
 use replay_words::words::same_place;
 use replay_words::words::size_at;
 
-pub fn row_matrix(f: &[f64; 512], w: &[u64; 512]) -> bool
+pub fn row_matrix(f: &[f64; 2048], w: &[u64; 2048]) -> bool
     ensures { λ r. ⌜ r ≡ Spec.rowMatrix (now (f .entry)) (now (w .entry)) ⌝ }
 {
     let size = size_at(w, 0);
@@ -24,7 +24,7 @@ pub fn row_matrix(f: &[f64; 512], w: &[u64; 512]) -> bool
     same_place(r, offset, length, w, 3)
 }
 
-pub fn row_map(f: &[f64; 512], w: &[u64; 512]) -> bool
+pub fn row_map(f: &[f64; 2048], w: &[u64; 2048]) -> bool
     ensures { λ r. ⌜ r ≡ Spec.rowMap (now (f .entry)) (now (w .entry)) ⌝ }
 {
     let size = size_at(w, 0);
@@ -39,7 +39,7 @@ pub fn row_map(f: &[f64; 512], w: &[u64; 512]) -> bool
 }
 
 // By the kind's number.
-pub fn agree(kind: u64, f: &[f64; 512], w: &[u64; 512]) -> bool
+pub fn agree(kind: u64, f: &[f64; 2048], w: &[u64; 2048]) -> bool
     ensures { λ r. ⌜ r ≡ Spec.rowsAgree kind (now (f .entry)) (now (w .entry)) ⌝ }
 {
     if kind == 31 {

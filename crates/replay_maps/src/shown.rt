@@ -17,7 +17,7 @@ fn signed(n: u64) -> i64
     n as i64
 }
 
-pub fn display(f: &[f64; 512], w: &[u64; 512]) -> bool
+pub fn display(f: &[f64; 2048], w: &[u64; 2048]) -> bool
     ensures { λ r. ⌜ r ≡ Spec.display (now (f .entry)) (now (w .entry)) ⌝ }
 {
     let shown = display::display(f[0]);
@@ -28,7 +28,7 @@ pub fn display(f: &[f64; 512], w: &[u64; 512]) -> bool
 }
 
 // By the kind's number.
-pub fn agree(kind: u64, f: &[f64; 512], w: &[u64; 512]) -> bool
+pub fn agree(kind: u64, f: &[f64; 2048], w: &[u64; 2048]) -> bool
     ensures { λ r. ⌜ r ≡ Spec.shownAgree kind (now (f .entry)) (now (w .entry)) ⌝ }
 {
     if kind == 35 {

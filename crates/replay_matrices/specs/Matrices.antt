@@ -20,7 +20,7 @@ matrixInto rule m out w k =
     sameWord r w k && held r (after r (Matrix.matrix (Assembly.blockUnder (quadratureRule rule)) m) out) w (k + 1)
 
 unfoldable pub matrixOf : ℕ → Mesh → List ℕ → ℕ → Bool
-matrixOf rule m w g = matrixInto rule m (lent 256 (cutAt w g 256)) w (g + 1)
+matrixOf rule m w g = matrixInto rule m (lent 576 (cutAt w g 576)) w (g + 1)
 
 unfoldable pub matrixCase : List Float → List ℕ → List ℕ → Bool
 matrixCase f u w = matrixOf (ruleOf (getD w 0 0)) (meshAt f u w 1) w (columnAt w 1 6)

@@ -22,10 +22,10 @@ fn matrix_into(
     t1: &[usize],
     t2: &[usize],
     out: &mut [f64],
-    w: &[u64; 512],
+    w: &[u64; 2048],
     k: usize,
 ) -> bool
-    requires { ⌜ k + 1 + length (now out) ≤ 512 ⌝ }
+    requires { ⌜ k + 1 + length (now out) ≤ 2048 ⌝ }
     ensures { λ r. ⌜ r ≡ Spec.matrixInto rule (meshOf (now (x .entry)) (now (y .entry)) (now (z .entry)) (now (t0 .entry)) (now (t1 .entry)) (now (t2 .entry))) (now (out .entry)) (now (w .entry)) k ⌝ }
 {
     let refusal = inductance::triangle_mesh_inductance_matrix(rule, x, y, z, t0, t1, t2, out);
@@ -42,19 +42,19 @@ fn matrix_of(
     t0: &[usize],
     t1: &[usize],
     t2: &[usize],
-    w: &[u64; 512],
+    w: &[u64; 2048],
     g: usize,
 ) -> bool
-    requires { ⌜ g ≤ 130 ⌝ }
+    requires { ⌜ g ≤ 298 ⌝ }
     ensures { λ r. ⌜ r ≡ Spec.matrixOf rule (meshOf (now (x .entry)) (now (y .entry)) (now (z .entry)) (now (t0 .entry)) (now (t1 .entry)) (now (t2 .entry))) (now (w .entry)) g ⌝ }
 {
-    let n = cut_at(w, g, 256);
-    let mut out = [77.0f64; 256];
+    let n = cut_at(w, g, 576);
+    let mut out = [77.0f64; 576];
     matrix_into(rule, x, y, z, t0, t1, t2, &mut out[0..n], w, g + 1)
 }
 
 // The matrix of a case.
-fn matrix_case(f: &[f64; 512], u: &[usize; 512], w: &[u64; 512]) -> bool
+fn matrix_case(f: &[f64; 2048], u: &[usize; 2048], w: &[u64; 2048]) -> bool
     ensures { λ r. ⌜ r ≡ Spec.matrixCase (now (f .entry)) (now (u .entry)) (now (w .entry)) ⌝ }
 {
     let rule = rule_of(w[0]);
@@ -69,7 +69,7 @@ fn matrix_case(f: &[f64; 512], u: &[usize; 512], w: &[u64; 512]) -> bool
 }
 
 // By the kind's number.
-pub fn agree(kind: u64, f: &[f64; 512], u: &[usize; 512], w: &[u64; 512]) -> bool
+pub fn agree(kind: u64, f: &[f64; 2048], u: &[usize; 2048], w: &[u64; 2048]) -> bool
     ensures { λ r. ⌜ r ≡ Spec.matricesAgree kind (now (f .entry)) (now (u .entry)) (now (w .entry)) ⌝ }
 {
     if kind == 25 {

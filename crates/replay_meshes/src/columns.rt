@@ -18,10 +18,10 @@ fn mesh_test_of(
     t0: &[usize],
     t1: &[usize],
     t2: &[usize],
-    w: &[u64; 512],
+    w: &[u64; 2048],
     g: usize,
 ) -> bool
-    requires { ⌜ g ≤ 130 ⌝ }
+    requires { ⌜ g ≤ 298 ⌝ }
     ensures { λ r. ⌜ r ≡ Spec.meshTestOf (meshOf (now (x .entry)) (now (y .entry)) (now (z .entry)) (now (t0 .entry)) (now (t1 .entry)) (now (t2 .entry))) (now (w .entry)) g ⌝ }
 {
     let tested = mesh::validate_triangle_mesh_geometry(x, y, z, t0, t1, t2);
@@ -37,11 +37,11 @@ fn of_mesh(
     t0: &[usize],
     t1: &[usize],
     t2: &[usize],
-    f: &[f64; 512],
-    w: &[u64; 512],
+    f: &[f64; 2048],
+    w: &[u64; 2048],
     g: usize,
 ) -> bool
-    requires { ⌜ g ≤ 130 ⌝ }
+    requires { ⌜ g ≤ 298 ⌝ }
     ensures { λ r. ⌜ r ≡ Spec.ofMesh kind (meshOf (now (x .entry)) (now (y .entry)) (now (z .entry)) (now (t0 .entry)) (now (t1 .entry)) (now (t2 .entry))) (now (f .entry)) (now (w .entry)) g ⌝ }
 {
     if kind == 20 {
@@ -58,7 +58,7 @@ fn of_mesh(
 }
 
 // The mesh begins at place k.
-fn with_mesh(kind: u64, f: &[f64; 512], u: &[usize; 512], w: &[u64; 512], k: usize) -> bool
+fn with_mesh(kind: u64, f: &[f64; 2048], u: &[usize; 2048], w: &[u64; 2048], k: usize) -> bool
     requires { ⌜ k ≤ 1 ⌝ }
     ensures { λ r. ⌜ r ≡ Spec.withMesh kind (now (f .entry)) (now (u .entry)) (now (w .entry)) k ⌝ }
 {
@@ -73,7 +73,7 @@ fn with_mesh(kind: u64, f: &[f64; 512], u: &[usize; 512], w: &[u64; 512], k: usi
 }
 
 // The mesh is the first input, or stands behind a rule.
-pub fn agree(kind: u64, f: &[f64; 512], u: &[usize; 512], w: &[u64; 512]) -> bool
+pub fn agree(kind: u64, f: &[f64; 2048], u: &[usize; 2048], w: &[u64; 2048]) -> bool
     ensures { λ r. ⌜ r ≡ Spec.meshesAgree kind (now (f .entry)) (now (u .entry)) (now (w .entry)) ⌝ }
 {
     if kind == 21 {

@@ -22,10 +22,10 @@ fn densities_into(
     jx: &mut [f64],
     jy: &mut [f64],
     jz: &mut [f64],
-    w: &[u64; 512],
+    w: &[u64; 2048],
     k: usize,
 ) -> bool
-    requires { ⌜ k + 1 + length (now jx) + length (now jy) + length (now jz) ≤ 512 ⌝ }
+    requires { ⌜ k + 1 + length (now jx) + length (now jy) + length (now jz) ≤ 2048 ⌝ }
     ensures { λ r. ⌜ r ≡ Spec.densitiesInto (meshOf (now (x .entry)) (now (y .entry)) (now (z .entry)) (now (t0 .entry)) (now (t1 .entry)) (now (t2 .entry))) (now (s .entry)) (now (jx .entry)) (now (jy .entry)) (now (jz .entry)) (now (w .entry)) k ⌝ }
 {
     let p = k + 1 + jx.len();
@@ -56,11 +56,11 @@ pub fn densities_of(
     t0: &[usize],
     t1: &[usize],
     t2: &[usize],
-    f: &[f64; 512],
-    w: &[u64; 512],
+    f: &[f64; 2048],
+    w: &[u64; 2048],
     g: usize,
 ) -> bool
-    requires { ⌜ g ≤ 130 ⌝ }
+    requires { ⌜ g ≤ 298 ⌝ }
     ensures { λ r. ⌜ r ≡ Spec.densitiesOf (meshOf (now (x .entry)) (now (y .entry)) (now (z .entry)) (now (t0 .entry)) (now (t1 .entry)) (now (t2 .entry))) (now (f .entry)) (now (w .entry)) g ⌝ }
 {
     let h = column_end(w, g);

@@ -22,10 +22,10 @@ fn quadrature_into(
     py: &mut [f64],
     pz: &mut [f64],
     pw: &mut [f64],
-    w: &[u64; 512],
+    w: &[u64; 2048],
     k: usize,
 ) -> bool
-    requires { ⌜ k + 1 + length (now px) + length (now py) + length (now pz) + length (now pw) ≤ 512 ⌝ }
+    requires { ⌜ k + 1 + length (now px) + length (now py) + length (now pz) + length (now pw) ≤ 2048 ⌝ }
     ensures { λ r. ⌜ r ≡ Spec.quadratureInto rule (meshOf (now (x .entry)) (now (y .entry)) (now (z .entry)) (now (t0 .entry)) (now (t1 .entry)) (now (t2 .entry))) (now (px .entry)) (now (py .entry)) (now (pz .entry)) (now (pw .entry)) (now (w .entry)) k ⌝ }
 {
     let p = k + 1 + px.len();
@@ -60,10 +60,10 @@ pub fn quadrature_of(
     t0: &[usize],
     t1: &[usize],
     t2: &[usize],
-    w: &[u64; 512],
+    w: &[u64; 2048],
     g: usize,
 ) -> bool
-    requires { ⌜ g ≤ 130 ⌝ }
+    requires { ⌜ g ≤ 298 ⌝ }
     ensures { λ r. ⌜ r ≡ Spec.quadratureOf rule (meshOf (now (x .entry)) (now (y .entry)) (now (z .entry)) (now (t0 .entry)) (now (t1 .entry)) (now (t2 .entry))) (now (w .entry)) g ⌝ }
 {
     let nx = length_at(w, g);

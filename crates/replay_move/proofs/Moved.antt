@@ -77,40 +77,40 @@ pub record Places (g n : ℕ) : Type 0 where
   pub one-bytes : Fits w64 ((g + 1) * 8)
   pub matrix-end : Fits w64 (g + 1 + n)
   pub end-bytes : Fits w64 ((g + 1 + n) * 8)
-  pub inside : g + 1 + n < 512
-  pub vector : g + 2 + n + 3 ≤ 512
+  pub inside : g + 1 + n < 2048
+  pub vector : g + 2 + n + 3 ≤ 2048
   pub two : Fits w64 (g + 2)
   pub place : Fits w64 (g + 2 + n)
   pub five : Fits w64 (g + 5)
   pub results : Fits w64 (g + 5 + n)
 
-pub places : (g n : ℕ) → g ≤ 130 → n ≤ 128 → Places g n
+pub places : (g n : ℕ) → g ≤ 298 → n ≤ 576 → Places g n
 places g n a b = record {
-  one = fits-under w64 (g + 1) 4096 (omega arith) tt;
-  one-bytes = fits-under w64 ((g + 1) * 8) 4096 (omega arith) tt;
-  matrix-end = fits-under w64 (g + 1 + n) 4096 (omega arith) tt;
-  end-bytes = fits-under w64 ((g + 1 + n) * 8) 4096 (omega arith) tt;
+  one = fits-under w64 (g + 1) 16384 (omega arith) tt;
+  one-bytes = fits-under w64 ((g + 1) * 8) 16384 (omega arith) tt;
+  matrix-end = fits-under w64 (g + 1 + n) 16384 (omega arith) tt;
+  end-bytes = fits-under w64 ((g + 1 + n) * 8) 16384 (omega arith) tt;
   inside = omega arith;
   vector = omega arith;
-  two = fits-under w64 (g + 2) 4096 (omega arith) tt;
-  place = fits-under w64 (g + 2 + n) 4096 (omega arith) tt;
-  five = fits-under w64 (g + 5) 4096 (omega arith) tt;
-  results = fits-under w64 (g + 5 + n) 4096 (omega arith) tt;
+  two = fits-under w64 (g + 2) 16384 (omega arith) tt;
+  place = fits-under w64 (g + 2 + n) 16384 (omega arith) tt;
+  five = fits-under w64 (g + 5) 16384 (omega arith) tt;
+  results = fits-under w64 (g + 5 + n) 16384 (omega arith) tt;
 }
 
 -- the stored results, with columns of so many nodes, end within the case
-pub results-inside : (g n nx ny nz : ℕ) (l : List Float) → (g ≤ 130) × (nx ≤ 20) × (ny ≤ 20) × (nz ≤ 20) → n ≤ 128 → g + 5 + n + 2 + length (take (g + 1 + n - (g + 1)) l) + nx + ny + nz ≤ 512
-results-inside g n nx ny nz l a b = omega (arith, cells-short g n 128 l b)
+pub results-inside : (g n nx ny nz : ℕ) (l : List Float) → (g ≤ 298) × (nx ≤ 48) × (ny ≤ 48) × (nz ≤ 48) → n ≤ 576 → g + 5 + n + 2 + length (take (g + 1 + n - (g + 1)) l) + nx + ny + nz ≤ 2048
+results-inside g n nx ny nz l a b = omega (arith, cells-short g n 576 l b)
 
 -- the lengths of what the call leaves are those of what it was lent, and so of what the case has
 pub as-long : (k nx ny nz n : ℕ) {x y z cells x0 y0 z0 cells0 : List Float}
-    → k + 2 + length cells0 + length x0 + length y0 + length z0 ≤ 512
+    → k + 2 + length cells0 + length x0 + length y0 + length z0 ≤ 2048
     → (x ≡ x0) × (y ≡ y0) × (z ≡ z0) × (cells ≡ cells0)
     → nx ≡ length x
     → ny ≡ length y
     → nz ≡ length z
     → n ≡ length cells
-    → (k + 2 + n + nx + ny + nz ≤ 512) × ((nx ≡ length x0) × (ny ≡ length y0) × (nz ≡ length z0) × (n ≡ length cells0))
+    → (k + 2 + n + nx + ny + nz ≤ 2048) × ((nx ≡ length x0) × (ny ≡ length y0) × (nz ≡ length z0) × (n ≡ length cells0))
 as-long k nx ny nz n h s ex ey ez en =
     let x = ex ∙ ap length (s .0) in
     let y = ey ∙ ap length (s .1) in
@@ -123,16 +123,16 @@ pub copy-long : (v copy : List Float) → part copy 0 (length v) ≡ v → lengt
 copy-long v copy e = omega (arith, ap length e, length-take (length v - 0) copy)
 
 -- the place behind a mesh is within the case
-pub behind-inside : (g : ℕ) → g ≤ 130 → g < 512
+pub behind-inside : (g : ℕ) → g ≤ 298 → g < 2048
 behind-inside g h = omega arith
 
 -- a column is short enough to be copied
-pub column-short : (n : ℕ) → n ≤ 20 → n ≤ 128
+pub column-short : (n : ℕ) → n ≤ 48 → n ≤ 576
 column-short n h = omega arith
 
 -- the move on copies that are what the case has, with what stands behind the mesh
 pub behind-mesh : (rule : ℕ) (f : List Float) (w : List ℕ) (g n : ℕ) (p : List Float) (t0 t1 t2 : List ℕ) {x y z x' y' z' cells' : List Float} {b : Bool}
-    → n ≡ cutAt w g 128
+    → n ≡ cutAt w g 576
     → p ≡ vectorAt f (g + 2 + n)
     → x' ≡ x
     → y' ≡ y

@@ -31,7 +31,7 @@ moveInto number m cells v p w k =
 -- behind the mesh: matrix, node, place
 unfoldable pub moveOf : ℕ → Mesh → List Float → List ℕ → ℕ → Bool
 moveOf rule m f w g =
-    let n = cutAt w g 128 in
+    let n = cutAt w g 576 in
     moveInto rule m (part f (g + 1) (g + 1 + n)) (getD w (g + 1 + n) 0) (vectorAt f (g + 2 + n)) w (g + 5 + n)
 
 unfoldable pub moveCase : List Float → List ℕ → List ℕ → Bool

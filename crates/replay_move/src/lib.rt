@@ -29,10 +29,10 @@ fn move_into(
     y0: &[f64],
     z0: &[f64],
     cells0: &[f64],
-    w: &[u64; 512],
+    w: &[u64; 2048],
     k: usize,
 ) -> bool
-    requires { ⌜ k + 2 + length (now cells0) + length (now x0) + length (now y0) + length (now z0) ≤ 512 ⌝ }
+    requires { ⌜ k + 2 + length (now cells0) + length (now x0) + length (now y0) + length (now z0) ≤ 2048 ⌝ }
     requires { ⌜ (now x ≡ now x0) × (now y ≡ now y0) × (now z ≡ now z0) × (now cells ≡ now cells0) ⌝ }
     ensures { λ r. ⌜ r ≡ Spec.moveInto rule (meshOf (now (x .entry)) (now (y .entry)) (now (z .entry)) (now (t0 .entry)) (now (t1 .entry)) (now (t2 .entry))) (now (cells .entry)) node place (now (w .entry)) k ⌝ }
 {
@@ -63,14 +63,14 @@ fn move_of(
     t0: &[usize],
     t1: &[usize],
     t2: &[usize],
-    f: &[f64; 512],
-    w: &[u64; 512],
+    f: &[f64; 2048],
+    w: &[u64; 2048],
     g: usize,
 ) -> bool
-    requires { ⌜ (g ≤ 130) × (length (now x) ≤ 20) × (length (now y) ≤ 20) × (length (now z) ≤ 20) ⌝ }
+    requires { ⌜ (g ≤ 298) × (length (now x) ≤ 48) × (length (now y) ≤ 48) × (length (now z) ≤ 48) ⌝ }
     ensures { λ r. ⌜ r ≡ Spec.moveOf rule (meshOf (now (x .entry)) (now (y .entry)) (now (z .entry)) (now (t0 .entry)) (now (t1 .entry)) (now (t2 .entry))) (now (f .entry)) (now (w .entry)) g ⌝ }
 {
-    let n = cut_at(w, g, 128);
+    let n = cut_at(w, g, 576);
     let all = &f[..];
     let cells = &all[g + 1..g + 1 + n];
     let node = w[g + 1 + n] as usize;
@@ -100,7 +100,7 @@ fn move_of(
 }
 
 // The move of a case.
-fn move_case(f: &[f64; 512], u: &[usize; 512], w: &[u64; 512]) -> bool
+fn move_case(f: &[f64; 2048], u: &[usize; 2048], w: &[u64; 2048]) -> bool
     ensures { λ r. ⌜ r ≡ Spec.moveCase (now (f .entry)) (now (u .entry)) (now (w .entry)) ⌝ }
 {
     let rule = rule_of(w[0]);
@@ -115,7 +115,7 @@ fn move_case(f: &[f64; 512], u: &[usize; 512], w: &[u64; 512]) -> bool
 }
 
 // By the kind's number.
-pub fn agree(kind: u64, f: &[f64; 512], u: &[usize; 512], w: &[u64; 512]) -> bool
+pub fn agree(kind: u64, f: &[f64; 2048], u: &[usize; 2048], w: &[u64; 2048]) -> bool
     ensures { λ r. ⌜ r ≡ Spec.movesAgree kind (now (f .entry)) (now (u .entry)) (now (w .entry)) ⌝ }
 {
     if kind == 30 {

@@ -1,4 +1,4 @@
--- A stored case as 512 words, and how a result is held to it: bit by bit, every NaN as one number. Definitions only.
+-- A stored case as 2,048 words, and how a result is held to it: bit by bit, every NaN as one number. Definitions only.
 use mathlib.Core.Bool.{Bool, cond, _&&_}
 use mathlib.Core.List.{List, [], _∷_}
 use Prim.Native.Nat.{ℕ, _+_, _-_, _^_}
@@ -48,9 +48,9 @@ sameValue r v w k = sameWord r w k && sameNumber v w (k + 1)
 unfoldable pub ruleOf : ℕ → ℕ
 ruleOf n = cond (ltb n (2 ^ 32)) n 0
 
--- so many words of input and of results; 513 where they are more than a case may have
+-- so many words of input and of results; 2,049 where they are more than a case may have
 unfoldable pub sizeOf : ℕ → ℕ → ℕ
-sizeOf inputs results = cond (ltb 512 inputs) 513 (cond (ltb (512 - inputs) results) 513 (inputs + results))
+sizeOf inputs results = cond (ltb 2048 inputs) 2049 (cond (ltb (2048 - inputs) results) 2049 (inputs + results))
 
 -- a stored length, cut at 64: a case that has more differs
 unfoldable pub lengthAt : List ℕ → ℕ → ℕ
@@ -66,11 +66,11 @@ cutAt w k most = cond (ltb most (getD w k 0)) most (getD w k 0)
 
 -- the place behind a mesh's column that begins with its length at place k
 unfoldable pub columnEnd : List ℕ → ℕ → ℕ
-columnEnd w k = k + 1 + cutAt w k 20
+columnEnd w k = k + 1 + cutAt w k 48
 
--- the same, cut at 512
+-- the same, cut at 2,048
 unfoldable pub sizeAt : List ℕ → ℕ → ℕ
-sizeAt w k = cond (ltb 512 (getD w k 0)) 512 (getD w k 0)
+sizeAt w k = cond (ltb 2048 (getD w k 0)) 2048 (getD w k 0)
 
 -- a refusal and a count
 unfoldable pub sameCount : ℕ → ℕ → List ℕ → ℕ → Bool

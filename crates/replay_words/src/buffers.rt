@@ -5,8 +5,8 @@ ghost use lib.ListN.{length};
 ghost use Rattle.replay_words.specs.Buffers as Spec;
 
 // The word that a place's bits must be.
-fn due_word(pattern: u64, refusal: u32, w: &[u64; 512], k: usize) -> u64
-    requires { ⌜ k < 512 ⌝ }
+fn due_word(pattern: u64, refusal: u32, w: &[u64; 2048], k: usize) -> u64
+    requires { ⌜ k < 2048 ⌝ }
     ensures { λ r. ⌜ r ≡ Spec.dueWord pattern refusal (now (w .entry)) k ⌝ }
 {
     if refusal == 0 {
@@ -15,8 +15,8 @@ fn due_word(pattern: u64, refusal: u32, w: &[u64; 512], k: usize) -> u64
     pattern
 }
 
-pub fn held(refusal: u32, v: &[f64], w: &[u64; 512], k: usize) -> bool
-    requires { ⌜ k + length (now v) ≤ 512 ⌝ }
+pub fn held(refusal: u32, v: &[f64], w: &[u64; 2048], k: usize) -> bool
+    requires { ⌜ k + length (now v) ≤ 2048 ⌝ }
     ensures { λ r. ⌜ r ≡ Spec.held refusal (now (v .entry)) (now (w .entry)) k ⌝ }
 {
     let mut ok = true;
@@ -31,8 +31,8 @@ pub fn held(refusal: u32, v: &[f64], w: &[u64; 512], k: usize) -> bool
 }
 
 // The same of places.
-pub fn held_places(refusal: u32, v: &[usize], w: &[u64; 512], k: usize) -> bool
-    requires { ⌜ k + length (now v) ≤ 512 ⌝ }
+pub fn held_places(refusal: u32, v: &[usize], w: &[u64; 2048], k: usize) -> bool
+    requires { ⌜ k + length (now v) ≤ 2048 ⌝ }
     ensures { λ r. ⌜ r ≡ Spec.heldPlaces refusal (now (v .entry)) (now (w .entry)) k ⌝ }
 {
     let mut ok = true;
@@ -62,8 +62,8 @@ fn same_numbers(v: &[f64], u: &[f64]) -> bool
 }
 
 // A buffer that a call changes: the stored results, or on a refusal what it held before.
-pub fn kept(refusal: u32, v: &[f64], before: &[f64], w: &[u64; 512], k: usize) -> bool
-    requires { ⌜ (k + length (now v) ≤ 512) × (length (now v) ≡ length (now before)) ⌝ }
+pub fn kept(refusal: u32, v: &[f64], before: &[f64], w: &[u64; 2048], k: usize) -> bool
+    requires { ⌜ (k + length (now v) ≤ 2048) × (length (now v) ≡ length (now before)) ⌝ }
     ensures { λ r. ⌜ r ≡ Spec.kept refusal (now (v .entry)) (now (before .entry)) (now (w .entry)) k ⌝ }
 {
     if refusal == 0 {

@@ -5,11 +5,11 @@ ghost use lib.ListN.{length};
 ghost use Rattle.replay_words.specs.Words.{part};
 
 // The numbers, at the front of as many as the longest column or matrix has.
-pub fn copied(v: &[f64]) -> [f64; 128]
-    requires { ⌜ length (now v) ≤ 128 ⌝ }
+pub fn copied(v: &[f64]) -> [f64; 576]
+    requires { ⌜ length (now v) ≤ 576 ⌝ }
     ensures { λ r. ⌜ part r 0 (length (now (v .entry))) ≡ now (v .entry) ⌝ }
 {
-    let mut copy = [0.0f64; 128];
+    let mut copy = [0.0f64; 576];
     let mut i = 0;
     while i < v.len() {
         copy[i] = v[i];

@@ -1,17 +1,17 @@
-// A stored case: 512 words, the same as numbers, and the comparison of results with them.
+// A stored case: 2,048 words, the same as numbers, and the comparison of results with them.
 ghost use mathlib.Core.Path.{_≡_};
 ghost use Prim.Native.Nat.{_+_, _≤_, _<_};
 ghost use Rattle.replay_words.specs.Words as Spec;
 
-pub fn vector(f: &[f64; 512], k: usize) -> [f64; 3]
-    requires { ⌜ k + 3 ≤ 512 ⌝ }
+pub fn vector(f: &[f64; 2048], k: usize) -> [f64; 3]
+    requires { ⌜ k + 3 ≤ 2048 ⌝ }
     ensures { λ r. ⌜ r ≡ Spec.vectorAt (now (f .entry)) k ⌝ }
 {
     [f[k], f[k + 1], f[k + 2]]
 }
 
-pub fn triangle(f: &[f64; 512], k: usize) -> [[f64; 3]; 3]
-    requires { ⌜ k + 9 ≤ 512 ⌝ }
+pub fn triangle(f: &[f64; 2048], k: usize) -> [[f64; 3]; 3]
+    requires { ⌜ k + 9 ≤ 2048 ⌝ }
     ensures { λ r. ⌜ r ≡ Spec.triangleAt (now (f .entry)) k ⌝ }
 {
     let a = vector(f, k);
@@ -20,8 +20,8 @@ pub fn triangle(f: &[f64; 512], k: usize) -> [[f64; 3]; 3]
     [a, b, c]
 }
 
-pub fn nine(f: &[f64; 512], k: usize) -> [f64; 9]
-    requires { ⌜ k + 9 ≤ 512 ⌝ }
+pub fn nine(f: &[f64; 2048], k: usize) -> [f64; 9]
+    requires { ⌜ k + 9 ≤ 2048 ⌝ }
     ensures { λ r. ⌜ r ≡ Spec.nineAt (now (f .entry)) k ⌝ }
 {
     [
@@ -37,29 +37,29 @@ pub fn nine(f: &[f64; 512], k: usize) -> [f64; 9]
     ]
 }
 
-pub fn same_word(n: u64, w: &[u64; 512], k: usize) -> bool
-    requires { ⌜ k < 512 ⌝ }
+pub fn same_word(n: u64, w: &[u64; 2048], k: usize) -> bool
+    requires { ⌜ k < 2048 ⌝ }
     ensures { λ r. ⌜ r ≡ Spec.sameWord n (now (w .entry)) k ⌝ }
 {
     n == w[k]
 }
 
-pub fn same_number(x: f64, w: &[u64; 512], k: usize) -> bool
-    requires { ⌜ k < 512 ⌝ }
+pub fn same_number(x: f64, w: &[u64; 2048], k: usize) -> bool
+    requires { ⌜ k < 2048 ⌝ }
     ensures { λ r. ⌜ r ≡ Spec.sameNumber x (now (w .entry)) k ⌝ }
 {
     same_word(density_text::canonical_bits(x), w, k)
 }
 
-pub fn same_flag(t: bool, w: &[u64; 512], k: usize) -> bool
-    requires { ⌜ k < 512 ⌝ }
+pub fn same_flag(t: bool, w: &[u64; 2048], k: usize) -> bool
+    requires { ⌜ k < 2048 ⌝ }
     ensures { λ r. ⌜ r ≡ Spec.sameFlag t (now (w .entry)) k ⌝ }
 {
     same_word(t as u64, w, k)
 }
 
-pub fn same_vector(v: [f64; 3], w: &[u64; 512], k: usize) -> bool
-    requires { ⌜ k + 3 ≤ 512 ⌝ }
+pub fn same_vector(v: [f64; 3], w: &[u64; 2048], k: usize) -> bool
+    requires { ⌜ k + 3 ≤ 2048 ⌝ }
     ensures { λ r. ⌜ r ≡ Spec.sameVector v (now (w .entry)) k ⌝ }
 {
     let a = same_number(v[0], w, k);
@@ -68,8 +68,8 @@ pub fn same_vector(v: [f64; 3], w: &[u64; 512], k: usize) -> bool
     (a) & ((b) & (c))
 }
 
-pub fn same_triangle(t: [[f64; 3]; 3], w: &[u64; 512], k: usize) -> bool
-    requires { ⌜ k + 9 ≤ 512 ⌝ }
+pub fn same_triangle(t: [[f64; 3]; 3], w: &[u64; 2048], k: usize) -> bool
+    requires { ⌜ k + 9 ≤ 2048 ⌝ }
     ensures { λ r. ⌜ r ≡ Spec.sameTriangle t (now (w .entry)) k ⌝ }
 {
     let a = same_vector(t[0], w, k);
@@ -78,8 +78,8 @@ pub fn same_triangle(t: [[f64; 3]; 3], w: &[u64; 512], k: usize) -> bool
     (a) & ((b) & (c))
 }
 
-pub fn same_nine(v: [f64; 9], w: &[u64; 512], k: usize) -> bool
-    requires { ⌜ k + 9 ≤ 512 ⌝ }
+pub fn same_nine(v: [f64; 9], w: &[u64; 2048], k: usize) -> bool
+    requires { ⌜ k + 9 ≤ 2048 ⌝ }
     ensures { λ r. ⌜ r ≡ Spec.sameNine v (now (w .entry)) k ⌝ }
 {
     let a = same_vector([v[0], v[1], v[2]], w, k);
@@ -88,8 +88,8 @@ pub fn same_nine(v: [f64; 9], w: &[u64; 512], k: usize) -> bool
     (a) & ((b) & (c))
 }
 
-pub fn same_value(refusal: u32, value: f64, w: &[u64; 512], k: usize) -> bool
-    requires { ⌜ k + 2 ≤ 512 ⌝ }
+pub fn same_value(refusal: u32, value: f64, w: &[u64; 2048], k: usize) -> bool
+    requires { ⌜ k + 2 ≤ 2048 ⌝ }
     ensures { λ r. ⌜ r ≡ Spec.sameValue refusal value (now (w .entry)) k ⌝ }
 {
     let a = same_word(refusal as u64, w, k);
@@ -107,8 +107,8 @@ pub fn rule_of(n: u64) -> u32
 }
 
 // A stored length, cut at 64.
-pub fn length_at(w: &[u64; 512], k: usize) -> usize
-    requires { ⌜ k < 512 ⌝ }
+pub fn length_at(w: &[u64; 2048], k: usize) -> usize
+    requires { ⌜ k < 2048 ⌝ }
     ensures { λ r. ⌜ (r ≡ Spec.lengthAt (now (w .entry)) k) × (r ≤ 64) ⌝ }
 {
     let n = w[k];
@@ -118,21 +118,21 @@ pub fn length_at(w: &[u64; 512], k: usize) -> usize
     n as usize
 }
 
-// The same, cut at 512.
-pub fn size_at(w: &[u64; 512], k: usize) -> usize
-    requires { ⌜ k < 512 ⌝ }
-    ensures { λ r. ⌜ (r ≡ Spec.sizeAt (now (w .entry)) k) × (r ≤ 512) ⌝ }
+// The same, cut at 2,048.
+pub fn size_at(w: &[u64; 2048], k: usize) -> usize
+    requires { ⌜ k < 2048 ⌝ }
+    ensures { λ r. ⌜ (r ≡ Spec.sizeAt (now (w .entry)) k) × (r ≤ 2048) ⌝ }
 {
     let n = w[k];
-    if n > 512 {
-        return 512;
+    if n > 2048 {
+        return 2048;
     }
     n as usize
 }
 
 // The same, cut at a given length.
-pub fn cut_at(w: &[u64; 512], k: usize, most: usize) -> usize
-    requires { ⌜ k < 512 ⌝ }
+pub fn cut_at(w: &[u64; 2048], k: usize, most: usize) -> usize
+    requires { ⌜ k < 2048 ⌝ }
     ensures { λ r. ⌜ (r ≡ Spec.cutAt (now (w .entry)) k most) × (r ≤ most) ⌝ }
 {
     let n = w[k];
@@ -143,16 +143,16 @@ pub fn cut_at(w: &[u64; 512], k: usize, most: usize) -> usize
 }
 
 // The place behind a mesh's column.
-pub fn column_end(w: &[u64; 512], k: usize) -> usize
+pub fn column_end(w: &[u64; 2048], k: usize) -> usize
     requires { ⌜ k < 400 ⌝ }
-    ensures { λ r. ⌜ (r ≡ Spec.columnEnd (now (w .entry)) k) × (k < r) × (r ≤ k + 21) ⌝ }
+    ensures { λ r. ⌜ (r ≡ Spec.columnEnd (now (w .entry)) k) × (k < r) × (r ≤ k + 49) ⌝ }
 {
-    k + 1 + cut_at(w, k, 20)
+    k + 1 + cut_at(w, k, 48)
 }
 
 // A refusal and a count.
-pub fn same_count(refusal: u32, count: usize, w: &[u64; 512], k: usize) -> bool
-    requires { ⌜ k + 2 ≤ 512 ⌝ }
+pub fn same_count(refusal: u32, count: usize, w: &[u64; 2048], k: usize) -> bool
+    requires { ⌜ k + 2 ≤ 2048 ⌝ }
     ensures { λ r. ⌜ r ≡ Spec.sameCount refusal count (now (w .entry)) k ⌝ }
 {
     let a = same_word(refusal as u64, w, k);
@@ -161,8 +161,8 @@ pub fn same_count(refusal: u32, count: usize, w: &[u64; 512], k: usize) -> bool
 }
 
 // A refusal, where a row begins and how long it is.
-pub fn same_place(refusal: u32, offset: usize, length: usize, w: &[u64; 512], k: usize) -> bool
-    requires { ⌜ k + 3 ≤ 512 ⌝ }
+pub fn same_place(refusal: u32, offset: usize, length: usize, w: &[u64; 2048], k: usize) -> bool
+    requires { ⌜ k + 3 ≤ 2048 ⌝ }
     ensures { λ r. ⌜ r ≡ Spec.samePlace refusal offset length (now (w .entry)) k ⌝ }
 {
     let a = same_word(refusal as u64, w, k);

@@ -9,8 +9,8 @@ use std::process::ExitCode;
 const USAGE: &str =
     "oracle selfcheck                           document 01's bench sheet, findings, constants, tables, poor panels
 oracle generate SEED FILE [SCALE] [KIND]   cases by seed (FORMAT.md)
-oracle sample SEED FILE COUNT [KIND...]    COUNT small cases of each call by seed, or of the named ones
-oracle check FILE                          answers the file's cases again and compares
+oracle stored FOLDER                       the files of the stored sample (sample/README.md)
+oracle check FILE [COUNT]                  answers the file's cases again and compares; so many must differ, none if not given
 oracle statistics FILE                     refusals and sorts of results by kind
 oracle show FILE [KIND] [COUNT]            cases in hexadecimal
 oracle density < FILE                      the program `density`";
@@ -31,13 +31,19 @@ fn main() -> ExitCode {
             write_file(file, |each| generate::all(seed, scale, only, each));
             true
         }
-        ["sample", seed, file, count, ref kinds @ ..] => {
-            let (seed, count) = (seed.parse().expect("SEED"), count.parse().expect("COUNT"));
-            let kinds: Vec<u32> = kinds.iter().map(|name| named(name)).collect();
-            write_file(file, |each| generate::sample(seed, count, &kinds, each));
+        ["stored", folder] => {
+            for (name, cases) in generate::stored::files() {
+                println!("{name}.bin");
+                write_file(&format!("{folder}/{name}.bin"), |each| {
+                    cases
+                        .iter()
+                        .for_each(|(kind, input, results)| each(*kind, input, results));
+                });
+            }
             true
         }
-        ["check", file] => check(file),
+        ["check", file] => check(file, 0),
+        ["check", file, count] => check(file, count.parse().expect("COUNT")),
         ["statistics", file] => {
             statistics(file);
             true
@@ -90,7 +96,8 @@ fn write_file(file: &str, make: impl FnOnce(&mut dyn FnMut(u32, &[u64], &[u64]))
     }
 }
 
-fn check(file: &str) -> bool {
+/// Answers the cases of a file again; whether there are any and so many differ.
+fn check(file: &str, expected: usize) -> bool {
     let (mut count, mut differ) = (0, BTreeMap::new());
     each_case(file, |kind, input, results| {
         count += 1;
@@ -101,8 +108,9 @@ fn check(file: &str) -> bool {
     for (name, n) in &differ {
         println!("{name:18} {n:6} differ");
     }
-    println!("{count} cases, {} differ", differ.values().sum::<i32>());
-    differ.is_empty()
+    let all = differ.values().sum::<usize>();
+    println!("{count} cases, {all} differ");
+    count > 0 && all == expected
 }
 
 fn statistics(file: &str) {

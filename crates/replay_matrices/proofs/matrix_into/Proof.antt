@@ -13,4 +13,4 @@ returns c =
     rw (← e .refusal, ← e .cells, ← c .before .before .same-word .ensures, ← c .held .ensures)
 
 pub matrix-into-spec : {M : Type 1} → statement M
-matrix-into-spec = tie.close (tie.spec (λ c κs. tt) (search needs) (λ c κs. omega arith) (λ c. fits-under w64 _ 4096 (omega arith) tt) (λ c κs. omega arith) (λ c. c .before .before .before .before .before .triangle-mesh-inductance-matrix .kept .1 .1 .1 .1 .1 .1 .1 .0) returns)
+matrix-into-spec = tie.close (tie.spec (λ c κs. tt) (search needs) (λ c κs. omega arith) (λ c. fits-under w64 _ 16384 (omega arith) tt) (λ c κs. omega arith) (λ c. c .before .before .before .before .before .triangle-mesh-inductance-matrix .kept .1 .1 .1 .1 .1 .1 .1 .0) returns)

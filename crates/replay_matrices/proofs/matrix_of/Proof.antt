@@ -16,4 +16,4 @@ returns c =
     rw (← c .before .before .before .cut-at .ensures .0) (c .before .matrix-into .ensures)
 
 pub matrix-of-spec : {M : Type 1} → statement M
-matrix-of-spec = tie.close (tie.spec (λ c κs. omega arith) (λ c. omega arith) (λ c. omega arith) (λ c. omega arith) (λ c. fits-under w64 _ 4096 (omega arith) tt) matrix-into-requires returns)
+matrix-of-spec = tie.close (tie.spec (λ c κs. omega arith) (λ c. omega arith) (λ c. omega arith) (λ c. omega arith) (λ c. fits-under w64 _ 16384 (omega arith) tt) matrix-into-requires returns)

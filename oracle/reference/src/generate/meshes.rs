@@ -172,6 +172,37 @@ fn any_panels(r: &mut Rng, max_nodes: usize, max_panels: usize) -> Mesh {
     mesh
 }
 
+/// An accepted sheet of so many nodes: squares cut in two, row after row of four to six nodes, uneven; the last row may not be
+/// full. Neighbours are near, the others far.
+pub fn sheet(r: &mut Rng, nodes: usize) -> Mesh {
+    let mut mesh = Mesh::default();
+    let wide = 4 + r.index(3);
+    let (scale, uneven) = (r.pick(&[1.0, 0.5, 0.3, 3.0]), r.pick(&[0.0, 0.1, 0.2]));
+    for k in 0..nodes {
+        let [x, y] = [k % wide, k / wide].map(|i| (i as f64 + uneven * r.signed()) * scale);
+        mesh.add_node([x, y, uneven * r.signed() * scale]);
+    }
+    for k in (0..nodes).filter(|k| k % wide + 1 < wide && k + wide + 1 < nodes) {
+        for mut panel in [[k, k + 1, k + wide], [k + 1, k + wide + 1, k + wide]] {
+            panel.rotate_left(r.index(3));
+            mesh.add_panel(panel);
+        }
+    }
+    mesh
+}
+
+/// So many nodes, and one panel so many times.
+pub fn filled(nodes: usize, panels: usize) -> Mesh {
+    let mut mesh = Mesh::default();
+    for i in 0..nodes {
+        mesh.add_node([(i % 3 == 1) as u8 as f64, (i % 3 == 2) as u8 as f64, 0.0]);
+    }
+    for _ in 0..panels {
+        mesh.add_panel([0, 1, 2]);
+    }
+    mesh
+}
+
 /// Gives one of three columns another length: one more, one less, none, or twice as many.
 fn resize<T: Copy>(r: &mut Rng, columns: [&mut Vec<T>; 3], more: T) {
     let column = columns.into_iter().nth(r.index(3)).unwrap();

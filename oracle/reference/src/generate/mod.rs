@@ -2,11 +2,12 @@
 mod meshes;
 mod numbers;
 mod panels;
+pub mod stored;
 
 use crate::calls::{self, Mesh};
 use crate::eval::{self, Out, eval};
 use crate::rng::Rng;
-use meshes::{length_near, mesh, rule};
+use meshes::{filled, length_near, mesh, rule};
 use numbers::values;
 use panels::{Style, pair, point, point_near, style, triangle};
 
@@ -266,16 +267,6 @@ pub fn count(kind: u32) -> usize {
 
 /// A few large cases, at the limits of sizes.
 fn limits() -> Vec<(&'static str, Out)> {
-    let filled = |nodes: usize, panels: usize| {
-        let mut mesh = Mesh::default();
-        for i in 0..nodes {
-            mesh.add_node([(i % 3 == 1) as u8 as f64, (i % 3 == 2) as u8 as f64, 0.0]);
-        }
-        for _ in 0..panels {
-            mesh.add_panel([0, 1, 2]);
-        }
-        mesh
-    };
     let input = Out::default;
     let mut cases = vec![];
     for (nodes, panels, missing) in [
@@ -348,29 +339,6 @@ pub fn all(seed: u64, scale: f64, only: Option<u32>, mut each: impl FnMut(u32, &
         }
         for (_, input) in limits.iter().filter(|(name, _)| *name == eval::name(kind)) {
             each(kind, &input.0, &eval(kind, &input.0));
-        }
-    }
-}
-
-/// The most words of a case of a sample, and the longest matrix or map whose row it asks for.
-const SAMPLE_WORDS: usize = 512;
-
-/// So many cases of every kind that is a call, by seed, small enough for a program with fixed buffers; of some kinds only if
-/// any are named.
-pub fn sample(seed: u64, count: usize, kinds: &[u32], mut each: impl FnMut(u32, &[u64], &[u64])) {
-    let wanted = |kind: &u32| eval::name(*kind) != "steps" && (kinds.is_empty() || kinds.contains(kind));
-    for kind in (1..=eval::NAMES.len() as u32).filter(wanted) {
-        let row = eval::name(kind).starts_with("row_");
-        let mut r = Rng(seed.wrapping_mul(0x2545f4914f6cdd1d) ^ ((kind as u64) << 48));
-        let mut left = count;
-        while left > 0 {
-            let input = one(kind, &mut r);
-            let results = eval(kind, &input);
-            let words = 2 + input.len() + results.len();
-            if words <= SAMPLE_WORDS && !(row && input[0] > SAMPLE_WORDS as u64) {
-                each(kind, &input, &results);
-                left -= 1;
-            }
         }
     }
 }

@@ -12,7 +12,7 @@ abbrev Inv-loop : tie.InvT-loop
 Inv-loop b w₀ i₀ w i = Unpacked (wordAt b) w₀ w i
 
 abbrev μ-loop : tie.MeasureT-loop
-μ-loop b w₀ i₀ w i = 512 - i
+μ-loop b w₀ i₀ w i = 2048 - i
 
 loop-holds : tie.Need-loop-holds Inv-loop μ-loop
 loop-holds c = start (search needs)
@@ -24,7 +24,7 @@ returns : tie.Need-returns Inv-loop μ-loop
 unfolding wordsOf
 returns c =
     let l = c .before .loop in
-    let e : l .i ≡ 512 = omega (arith, l .inv .upto, c .loop-test .left) in
+    let e : l .i ≡ 2048 = omega (arith, l .inv .upto, c .loop-test .left) in
     whole (l .inv) e
 
 pub words-spec : {M : Type 1} → statement M

@@ -1,4 +1,4 @@
--- So many words have at most 4,096 bytes.
+-- So many words have at most 16,384 bytes.
 use borrow.Author.Needs.{needs}
 use Rattle.replay_cases.proofs.input.bytes.Statement.{statement}
 use Rattle.replay_cases.proofs.input.bytes.Tie as tie

@@ -11,4 +11,4 @@ unfolding keptColumns
 returns c = rw (← c .before .before .kept .ensures, ← c .before .kept2 .ensures, ← c .kept3 .ensures)
 
 pub kept-columns-spec : {M : Type 1} → statement M
-kept-columns-spec = tie.close (tie.spec (λ c. fits-under w64 _ 4096 (omega arith) tt) (λ c. fits-under w64 _ 4096 (omega arith) tt) (λ c κs. (omega arith, omega arith)) (λ c κs. (omega arith, omega arith)) (λ c κs. (omega arith, omega arith)) returns)
+kept-columns-spec = tie.close (tie.spec (λ c. fits-under w64 _ 16384 (omega arith) tt) (λ c. fits-under w64 _ 16384 (omega arith) tt) (λ c κs. (omega arith, omega arith)) (λ c κs. (omega arith, omega arith)) (λ c κs. (omega arith, omega arith)) returns)

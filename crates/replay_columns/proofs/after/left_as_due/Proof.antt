@@ -11,4 +11,4 @@ unfolding leftAsDue
 returns c = rw (← c .before .before .same-count .ensures, ← c .before .kept .ensures, ← c .kept-columns .ensures)
 
 pub left-as-due-spec : {M : Type 1} → statement M
-left-as-due-spec = tie.close (tie.spec (λ c. fits-under w64 _ 4096 (omega arith) tt) (λ c. fits-under w64 _ 4096 (omega arith) tt) (λ c κs. omega arith) (λ c. fits-under w64 _ 4096 (omega arith) tt) (λ c κs. (omega arith, omega arith)) (λ c κs. (omega arith, (omega arith, omega arith, omega arith))) returns)
+left-as-due-spec = tie.close (tie.spec (λ c. fits-under w64 _ 16384 (omega arith) tt) (λ c. fits-under w64 _ 16384 (omega arith) tt) (λ c κs. omega arith) (λ c. fits-under w64 _ 16384 (omega arith) tt) (λ c κs. (omega arith, omega arith)) (λ c κs. (omega arith, (omega arith, omega arith, omega arith))) returns)

@@ -1,4 +1,4 @@
--- at is the place of column j, each at most 21 places behind the one before.
+-- at is the place of column j, each at most 49 places behind the one before.
 use mathlib.Core.Path.{_≡_, refl}
 use Prim.Native.Nat.{_+_, _*_, _-_, _≤_}
 use native.Mathlib.Omega.{arith}
@@ -8,7 +8,7 @@ use Rattle.replay_columns.proofs.columns.column_at.Statement.{statement
 use Rattle.replay_columns.proofs.columns.column_at.Tie as tie
 
 abbrev Inv-loop : tie.InvT-loop
-Inv-loop w k i at₀ j₀ at j = (j ≤ i) × (at ≡ columnAt w k j) × (at ≤ k + 21 * j)
+Inv-loop w k i at₀ j₀ at j = (j ≤ i) × (at ≡ columnAt w k j) × (at ≤ k + 49 * j)
 
 abbrev μ-loop : tie.MeasureT-loop
 μ-loop w k i at₀ j₀ at j = i - j

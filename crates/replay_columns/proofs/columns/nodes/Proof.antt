@@ -12,7 +12,7 @@ unfolding column
 returns c =
     let a = c .before .before .before .column-at in
     let e = c .before .before .column-end in
-    let h : e .result - (a .result + 1) ≤ 20 = omega arith in
+    let h : e .result - (a .result + 1) ≤ 48 = omega arith in
     (rw (column-next, ← a .ensures .0, ← e .ensures .0), at-most _ _ _ h)
 
 pub nodes-spec : {M : Type 1} → statement M

@@ -16,4 +16,4 @@ returns c =
     rw (← e .number, ← e .x, ← e .y, ← e .z, ← e .weights, ← c .before .before .before .before .before .before .before .before .same-word .ensures, ← c .before .before .before .before .before .before .held .ensures, ← c .before .before .before .before .held2 .ensures, ← c .before .before .held3 .ensures, ← c .held4 .ensures)
 
 pub quadrature-into-spec : {M : Type 1} → statement M
-quadrature-into-spec = tie.close (tie.spec (λ c. fits-under w64 _ 4096 (omega arith) tt) (λ c. fits-under w64 _ 4096 (omega arith) tt) (λ c. fits-under w64 _ 4096 (omega arith) tt) (λ c. fits-under w64 _ 4096 (omega arith) tt) (λ c κs. tt) (search needs) (λ c κs. omega arith) (λ c. fits-under w64 _ 4096 (omega arith) tt) (λ c κs. omega arith) (λ c κs. omega arith) (λ c κs. omega arith) held-requires-4 (λ c. c .before .before .before .before .before .before .before .before .before .before .before .before .before .before .before .before .before .triangle-mesh-quadrature-points .kept .1 .1 .1 .1 .1 .1 .1 .0) (λ c. c .before .before .before .before .before .before .before .before .before .before .before .before .before .before .before .before .before .triangle-mesh-quadrature-points .kept .1 .1 .1 .1 .1 .1 .1 .1 .0) (λ c. c .before .before .before .before .before .before .before .before .before .before .before .before .before .before .before .before .before .triangle-mesh-quadrature-points .kept .1 .1 .1 .1 .1 .1 .1 .1 .1 .0) (λ c. c .before .before .before .before .before .before .before .before .before .before .before .before .before .before .before .before .before .triangle-mesh-quadrature-points .kept .1 .1 .1 .1 .1 .1 .1 .1 .1 .1 .0) returns)
+quadrature-into-spec = tie.close (tie.spec (λ c. fits-under w64 _ 16384 (omega arith) tt) (λ c. fits-under w64 _ 16384 (omega arith) tt) (λ c. fits-under w64 _ 16384 (omega arith) tt) (λ c. fits-under w64 _ 16384 (omega arith) tt) (λ c κs. tt) (search needs) (λ c κs. omega arith) (λ c. fits-under w64 _ 16384 (omega arith) tt) (λ c κs. omega arith) (λ c κs. omega arith) (λ c κs. omega arith) held-requires-4 (λ c. c .before .before .before .before .before .before .before .before .before .before .before .before .before .before .before .before .before .triangle-mesh-quadrature-points .kept .1 .1 .1 .1 .1 .1 .1 .0) (λ c. c .before .before .before .before .before .before .before .before .before .before .before .before .before .before .before .before .before .triangle-mesh-quadrature-points .kept .1 .1 .1 .1 .1 .1 .1 .1 .0) (λ c. c .before .before .before .before .before .before .before .before .before .before .before .before .before .before .before .before .before .triangle-mesh-quadrature-points .kept .1 .1 .1 .1 .1 .1 .1 .1 .1 .0) (λ c. c .before .before .before .before .before .before .before .before .before .before .before .before .before .before .before .before .before .triangle-mesh-quadrature-points .kept .1 .1 .1 .1 .1 .1 .1 .1 .1 .1 .0) returns)

@@ -16,4 +16,4 @@ unfolding dueWord
 returns-2 c = rw (ne-eqb _ _ (c .if1 .left))
 
 pub due-word-spec : {M : Type 1} → statement M
-due-word-spec = tie.close (tie.spec (λ c. fits-under w64 _ 4096 (omega arith) tt) (λ c. omega arith) returns returns-2)
+due-word-spec = tie.close (tie.spec (λ c. fits-under w64 _ 16384 (omega arith) tt) (λ c. omega arith) returns returns-2)

@@ -14,4 +14,4 @@ returns c = (refl, omega arith)
 pub bytes-end-spec : {M : Type 1} → statement M
 bytes-end-spec =
     tie.close
-    (tie.spec (λ c. fits-under w64 _ 4096 (omega arith) tt) (λ c. fits-under w64 _ 4096 (omega arith) tt) returns)
+    (tie.spec (λ c. fits-under w64 _ 16384 (omega arith) tt) (λ c. fits-under w64 _ 16384 (omega arith) tt) returns)

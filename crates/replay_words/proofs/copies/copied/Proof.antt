@@ -12,7 +12,7 @@ use Rattle.replay_words.proofs.copies.copied.Statement.{statement}
 use Rattle.replay_words.proofs.copies.copied.Tie as tie
 
 abbrev Inv-loop : tie.InvT-loop
-Inv-loop v copy₀ i₀ copy i = (i ≤ length v) × (length copy ≡ 128) × (take i copy ≡ take i v)
+Inv-loop v copy₀ i₀ copy i = (i ≤ length v) × (length copy ≡ 576) × (take i copy ≡ take i v)
 
 abbrev μ-loop : tie.MeasureT-loop
 μ-loop v copy₀ i₀ copy i = length v - i
@@ -37,4 +37,4 @@ returns c =
 pub copied-spec : {M : Type 1} → statement M
 copied-spec =
     tie.close
-    (tie.spec Inv-loop μ-loop loop-holds (λ c. fits-under w64 _ 4096 (omega arith) tt) (search needs) (λ c. fits-under w64 _ 4096 (omega arith) tt) (λ c. omega arith) (λ c. fits-under w64 _ 4096 (omega arith) tt) (λ c. omega arith) loop-again returns)
+    (tie.spec Inv-loop μ-loop loop-holds (λ c. fits-under w64 _ 16384 (omega arith) tt) (search needs) (λ c. fits-under w64 _ 16384 (omega arith) tt) (λ c. omega arith) (λ c. fits-under w64 _ 16384 (omega arith) tt) (λ c. omega arith) loop-again returns)

@@ -11,4 +11,4 @@ unfolding columnEnd
 returns c = (rw (← c .cut-at .ensures .0), omega arith, omega arith)
 
 pub column-end-spec : {M : Type 1} → statement M
-column-end-spec = tie.close (tie.spec (λ c. fits-under w64 _ 4096 (omega arith) tt) (search needs) (λ c. fits-under w64 _ 4096 (omega arith) tt) returns)
+column-end-spec = tie.close (tie.spec (λ c. fits-under w64 _ 16384 (omega arith) tt) (search needs) (λ c. fits-under w64 _ 16384 (omega arith) tt) returns)

@@ -11,4 +11,4 @@ unfolding sameCount
 returns c = rw (← c .before .same-word .ensures, ← c .same-word2 .ensures)
 
 pub same-count-spec : {M : Type 1} → statement M
-same-count-spec = tie.close (tie.spec (search needs) (λ c. fits-under w64 _ 4096 (omega arith) tt) (search needs) returns)
+same-count-spec = tie.close (tie.spec (search needs) (λ c. fits-under w64 _ 16384 (omega arith) tt) (search needs) returns)

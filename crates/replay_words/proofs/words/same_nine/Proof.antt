@@ -11,4 +11,4 @@ unfolding sameNine
 returns c = rw (← c .before .before .same-vector .ensures, ← c .before .same-vector2 .ensures, ← c .same-vector3 .ensures)
 
 pub same-nine-spec : {M : Type 1} → statement M
-same-nine-spec = tie.close (tie.spec (λ c. omega arith) (λ c. omega arith) (λ c. omega arith) (search needs) (λ c. omega arith) (λ c. omega arith) (λ c. omega arith) (λ c. fits-under w64 _ 4096 (omega arith) tt) (search needs) (λ c. omega arith) (λ c. omega arith) (λ c. omega arith) (λ c. fits-under w64 _ 4096 (omega arith) tt) (search needs) returns)
+same-nine-spec = tie.close (tie.spec (λ c. omega arith) (λ c. omega arith) (λ c. omega arith) (search needs) (λ c. omega arith) (λ c. omega arith) (λ c. omega arith) (λ c. fits-under w64 _ 16384 (omega arith) tt) (search needs) (λ c. omega arith) (λ c. omega arith) (λ c. omega arith) (λ c. fits-under w64 _ 16384 (omega arith) tt) (search needs) returns)

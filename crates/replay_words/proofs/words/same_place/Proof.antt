@@ -11,4 +11,4 @@ unfolding samePlace
 returns c = rw (← c .before .before .same-word .ensures, ← c .before .same-word2 .ensures, ← c .same-word3 .ensures)
 
 pub same-place-spec : {M : Type 1} → statement M
-same-place-spec = tie.close (tie.spec (search needs) (λ c. fits-under w64 _ 4096 (omega arith) tt) (search needs) (λ c. fits-under w64 _ 4096 (omega arith) tt) (search needs) returns)
+same-place-spec = tie.close (tie.spec (search needs) (λ c. fits-under w64 _ 16384 (omega arith) tt) (search needs) (λ c. fits-under w64 _ 16384 (omega arith) tt) (search needs) returns)

@@ -11,4 +11,4 @@ unfolding sameTriangle
 returns c = rw (← c .same-vector3 .ensures, ← c .before .before .same-vector2 .ensures, ← c .before .before .before .before .same-vector .ensures)
 
 pub same-triangle-spec : {M : Type 1} → statement M
-same-triangle-spec = tie.close (tie.spec (search needs) (search needs) (search needs) (λ c. fits-under w64 _ 4096 (omega arith) tt) (search needs) (search needs) (λ c. fits-under w64 _ 4096 (omega arith) tt) (search needs) returns)
+same-triangle-spec = tie.close (tie.spec (search needs) (search needs) (search needs) (λ c. fits-under w64 _ 16384 (omega arith) tt) (search needs) (search needs) (λ c. fits-under w64 _ 16384 (omega arith) tt) (search needs) returns)

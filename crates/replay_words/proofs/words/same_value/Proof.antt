@@ -11,4 +11,4 @@ unfolding sameValue
 returns c = rw (← c .before .same-word .ensures, ← c .same-number .ensures)
 
 pub same-value-spec : {M : Type 1} → statement M
-same-value-spec = tie.close (tie.spec (search needs) (λ c. fits-under w64 _ 4096 (omega arith) tt) (search needs) returns)
+same-value-spec = tie.close (tie.spec (search needs) (λ c. fits-under w64 _ 16384 (omega arith) tt) (search needs) returns)

@@ -11,4 +11,4 @@ unfolding sameVector
 returns c = rw (← c .same-number3 .ensures, ← c .before .same-number2 .ensures, ← c .before .before .same-number .ensures)
 
 pub same-vector-spec : {M : Type 1} → statement M
-same-vector-spec = tie.close (tie.spec (λ c. omega arith) (search needs) (λ c. omega arith) (λ c. fits-under w64 _ 4096 (omega arith) tt) (search needs) (λ c. omega arith) (λ c. fits-under w64 _ 4096 (omega arith) tt) (search needs) returns)
+same-vector-spec = tie.close (tie.spec (λ c. omega arith) (search needs) (λ c. omega arith) (λ c. fits-under w64 _ 16384 (omega arith) tt) (search needs) (λ c. omega arith) (λ c. fits-under w64 _ 16384 (omega arith) tt) (search needs) returns)

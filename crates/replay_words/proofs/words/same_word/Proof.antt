@@ -11,4 +11,4 @@ unfolding sameWord
 returns c = search needs
 
 pub same-word-spec : {M : Type 1} → statement M
-same-word-spec = tie.close (tie.spec (λ c. fits-under w64 _ 4096 (omega arith) tt) (λ c. omega arith) returns)
+same-word-spec = tie.close (tie.spec (λ c. fits-under w64 _ 16384 (omega arith) tt) (λ c. omega arith) returns)

@@ -16,4 +16,4 @@ unfolding sizeAt
 returns-2 c = (rw (le-ltb _ _ (c .if1 .left)), omega arith)
 
 pub size-at-spec : {M : Type 1} → statement M
-size-at-spec = tie.close (tie.spec (λ c. fits-under w64 _ 4096 (omega arith) tt) (λ c. omega arith) returns returns-2)
+size-at-spec = tie.close (tie.spec (λ c. fits-under w64 _ 16384 (omega arith) tt) (λ c. omega arith) returns returns-2)

@@ -11,4 +11,4 @@ unfolding triangleAt
 returns c = rw (← c .before .before .vector .ensures, ← c .before .vector2 .ensures, ← c .vector3 .ensures)
 
 pub triangle-spec : {M : Type 1} → statement M
-triangle-spec = tie.close (tie.spec (λ c κs. omega arith) (λ c. fits-under w64 _ 4096 (omega arith) tt) (λ c κs. omega arith) (λ c. fits-under w64 _ 4096 (omega arith) tt) (λ c κs. omega arith) returns)
+triangle-spec = tie.close (tie.spec (λ c κs. omega arith) (λ c. fits-under w64 _ 16384 (omega arith) tt) (λ c κs. omega arith) (λ c. fits-under w64 _ 16384 (omega arith) tt) (λ c κs. omega arith) returns)
