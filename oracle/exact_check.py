@@ -94,6 +94,9 @@ def main():
             name, answer = KINDS[kind]
             cases[name] = cases.get(name, 0) + 1
             differ += tuple(answer(*words[start:middle])) != words[middle:end]
+    if not cases:
+        print("exact_check.py: the file has no case of " + ", ".join(name for name, _ in KINDS.values()), file=sys.stderr)
+        return 2
     print(", ".join(f"{name} {n}" for name, n in cases.items()), f"cases, {differ} differ")
     return differ != 0
 

@@ -178,7 +178,7 @@ fn shown(kind: &str, words: &[u64]) -> String {
     words.iter().map(one).collect::<Vec<_>>().join(", ")
 }
 
-/// Prints both answers to each; whether they agree wherever ours has the call.
+/// Prints both answers to each; whether they agree wherever ours has the call, and it has some.
 pub fn run() -> bool {
     let mut cases: Vec<Case> = [degenerate(), panels(), arithmetic()].into_iter().flatten().collect();
     cases.sort_by_key(|c| c.finding);
@@ -206,5 +206,5 @@ pub fn run() -> bool {
         "findings: {} cases, {asked} asked of ours, {differ} differ",
         cases.len()
     );
-    differ == 0
+    asked > 0 && differ == 0
 }

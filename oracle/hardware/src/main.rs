@@ -60,6 +60,10 @@ fn main() -> ExitCode {
     let words: Vec<u64> = std::env::args().skip(1).map(|s| s.parse().expect("a number")).collect();
     let seed = words.first().copied().unwrap_or(1);
     let count = words.get(1).copied().unwrap_or(10) * 1_000_000;
+    if count == 0 {
+        eprintln!("hardware: MILLIONS must be above 0");
+        return ExitCode::from(2);
+    }
     if !is_x86_feature_detected!("fma") {
         println!("this processor has no fused multiply-add");
         return ExitCode::FAILURE;
