@@ -3,7 +3,7 @@
 # Proves and builds our static library and the program `density`, builds the original in SOURCE, and compares the two, ours
 # through the Rust crate of host/screens, on cases by seed. With `soak` it goes on with one seed after another for so many
 # minutes; with `findings` it asks both what docs/DIFFERENCES.md lists. Ends with the count of cases and `0 differ`; the exit
-# status is 1 if any differ.
+# status is 1 if any differ, and 2 if what was asked for is nothing that can be compared.
 set -eu -o pipefail
 here=$(cd "$(dirname "$0")" && pwd)
 source=$(cd "${1:?usage: compare.sh SOURCE [SEED [SCALE [KIND]] | soak MINUTES [SEED [SCALE]] | findings]}" && pwd)
