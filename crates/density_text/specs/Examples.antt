@@ -1,4 +1,4 @@
--- Closed inputs: an empty mesh, the same with a byte behind it, one node without its value, too many nodes, and document 01's example. Assumes nothing.
+-- Document 01's program `density`: closed inputs: an empty mesh, the same with a byte behind it, one node without its value, too many nodes, and document 01's example. Assumes nothing.
 use mathlib.Core.Path.{_≡_, refl}
 use mathlib.Core.List.{List, [], _∷_, _++_}
 use Prim.Native.Nat.{ℕ}

@@ -1,4 +1,4 @@
--- What the program `density` prints for its standard input, byte by byte, after document 01's "Panel file". Definitions only.
+-- Document 01's program `density`: what it prints for its standard input, byte by byte, after "Panel file". Definitions only.
 use mathlib.Core.Path.{_≡_}
 use mathlib.Core.Bool.{cond}
 use mathlib.Core.List.{List, [], _∷_, _++_}

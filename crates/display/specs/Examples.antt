@@ -1,4 +1,4 @@
--- Closed display values: halves on both sides of zero, the two zeros, the largest size and the numbers above it, what is not finite. Assumes nothing.
+-- Document 01's display value at closed numbers: halves on both sides of zero, the two zeros, the largest size and the numbers above it, what is not finite. Assumes nothing.
 use mathlib.Core.Path.{_≡_, refl}
 use mathlib.Core.Bool.{true}
 use lib.IntN.{pos, negsuc}

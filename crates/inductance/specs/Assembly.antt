@@ -1,4 +1,4 @@
--- The call that assembles the matrix: its number, and what it leaves. Definitions only.
+-- inductance.rs, `triangle_mesh_inductance_matrix`, with document 01's numbers: the call's number, and what it leaves. Definitions only.
 use mathlib.Core.Path.{_≡_}
 use mathlib.Core.Logic.{_↔_}
 use mathlib.Core.Bool.{not}

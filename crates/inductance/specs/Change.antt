@@ -1,4 +1,4 @@
--- A change of the places of some nodes, for the laws on cells that it leaves alone. Definitions only.
+-- Inner form: a change of the places of some nodes, for the laws on cells that it leaves alone. Definitions only.
 use mathlib.Core.Path.{_≡_}
 use mathlib.Core.Bool.{Bool, true, false}
 use Prim.Native.Nat.{ℕ, _<_}

@@ -1,4 +1,4 @@
--- An answer with a number and a value: the value is zero on a refusal. Definitions only.
+-- Shared by the definitions: an answer with a number and a value: the value is zero on a refusal. Definitions only.
 use mathlib.Core.Path.{_≡_}
 use mathlib.Core.Bool.{cond}
 use Prim.Native.Nat.{ℕ}

@@ -1,4 +1,4 @@
--- The row of a node in a matrix or a map, or nothing on a refusal. Definitions only.
+-- Document 01's row of a node in a matrix or a map, or nothing on a refusal. Definitions only.
 use mathlib.Core.Bool.{cond}
 use mathlib.Core.List.{List, [], _∷_, _++_}
 use Prim.Native.Nat.{ℕ, _/_}

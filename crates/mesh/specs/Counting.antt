@@ -1,4 +1,4 @@
--- Tests over the numbers below a count: whether one of them passes, how many do, and what these say without their recursion. Assumes nothing.
+-- Shared by the definitions: tests over the numbers below a count: whether one of them passes, how many do, and what these say without their recursion. Assumes nothing.
 use mathlib.Core.Path.{_≡_, refl, sym, _∙_}
 use mathlib.Core.Logic.{_⊎_, inl, inr}
 use mathlib.Core.Bool.{Bool, true, false, _||_, cond, or-true, true≢false, false≢true}

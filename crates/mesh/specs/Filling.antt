@@ -1,4 +1,4 @@
--- A list of n elements, floats or indices, given one by one, and an output that is filled with it from the front. Assumes nothing.
+-- Shared by the definitions: a list of n elements, floats or indices, given one by one, and an output that is filled with it from the front. Assumes nothing.
 use mathlib.Core.Path.{_≡_, refl, sym, ap, _∙_}
 use mathlib.Core.List.{List, [], _∷_, _++_, append-nil}
 use Prim.Native.Nat.{ℕ, zero, suc, _+_, _<_, _≤_}

@@ -1,4 +1,4 @@
--- The move of one node: the numbers in order and the claim of the call. The moved mesh, the ring of the node and the named cells are those of node_ring, passed on. Definitions only.
+-- Document 01's move of one node: the numbers in order and the claim of the call. The moved mesh, the ring of the node and the named cells are those of node_ring, passed on. Definitions only.
 use mathlib.Core.Path.{_≡_}
 use mathlib.Core.Logic.{_↔_, _⊎_}
 use mathlib.Core.List.{List, _∷_, _++_}

@@ -1,4 +1,4 @@
--- The mesh with one node at another place, and the number of such a move. Definitions only.
+-- Document 01's move: the mesh with one node at another place, and the number of such a move. Definitions only.
 use mathlib.Core.Bool.{not}
 use mathlib.Core.List.{List, [], _∷_, _++_}
 use Prim.Native.Nat.{ℕ, _*_}

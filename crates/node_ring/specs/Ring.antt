@@ -1,4 +1,4 @@
--- The ring of changed nodes, the cells that a set of nodes names, and their count. Definitions only.
+-- Document 01's move: the ring of changed nodes, the cells that a set of nodes names, and their count. Definitions only.
 use mathlib.Core.Bool.{Bool, _&&_}
 use Prim.Native.Nat.{ℕ, zero, suc, _+_}
 use Rattle.mesh.specs.Counting.{anyOf, someBelow, countBelow}

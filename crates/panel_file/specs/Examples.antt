@@ -1,4 +1,4 @@
--- Closed files of a header alone, each with its number. Assumes nothing.
+-- Document 01's panel file: closed files of a header alone, each with its number. Assumes nothing.
 use mathlib.Core.Path.{_≡_, refl}
 use mathlib.Core.List.{List, [], _∷_}
 use Prim.Native.Nat.{ℕ}

@@ -1,4 +1,4 @@
--- Numbers of w bytes, the lowest byte first. Definitions only.
+-- Document 01's panel file: numbers of w bytes, the lowest byte first. Definitions only.
 use mathlib.Core.List.{List, [], _∷_, _++_}
 use Prim.Native.Nat.{ℕ, zero, suc, _+_, _*_, _/_, _%_}
 use lib.ListN.{getD}

@@ -1,4 +1,4 @@
--- What a case of each kind of fixed length compares: inputs from word 0 on, the results behind them. Definitions only.
+-- The replay: what a case of each kind of fixed length compares: inputs from word 0 on, the results behind them. Definitions only.
 use mathlib.Core.Bool.{Bool, false, cond, _&&_}
 use mathlib.Core.List.{List, []}
 use Prim.Native.Nat.{ℕ}

@@ -1,4 +1,4 @@
--- A case's kind from its head, and its words, numbers and places from its bytes. Definitions only.
+-- The replay: a case's kind from its head, and its words, numbers and places from its bytes. Definitions only.
 use mathlib.Core.Bool.{cond}
 use mathlib.Core.List.{List}
 use Prim.Native.Nat.{ℕ, _*_}

@@ -1,4 +1,4 @@
--- Counts of cases, as words of 64 bits. Definitions, with the equation of the one that recurs.
+-- The replay: counts of cases, as words of 64 bits. Definitions, with the equation of the one that recurs.
 use mathlib.Core.Path.{_≡_}
 use mathlib.Core.Bool.{Bool, true, false, cond}
 use mathlib.Core.List.{List}

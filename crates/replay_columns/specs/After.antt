@@ -1,4 +1,4 @@
--- What a call has left of three columns and a matrix, against the stored results, or on a refusal what was there before. Definitions only.
+-- The replay: what a call has left of three columns and a matrix, against the stored results, or on a refusal what was there before. Definitions only.
 use mathlib.Core.Bool.{Bool, _&&_}
 use mathlib.Core.List.{List}
 use Prim.Native.Nat.{ℕ, _+_}

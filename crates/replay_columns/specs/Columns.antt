@@ -1,4 +1,4 @@
--- A mesh in a stored case: six columns one behind the other, each as its length and its elements. Definitions, with the equation of the one that recurs.
+-- The replay: a mesh in a stored case: six columns one behind the other, each as its length and its elements. Definitions, with the equation of the one that recurs.
 use mathlib.Core.Path.{_≡_}
 use mathlib.Core.List.{List}
 use Prim.Native.Nat.{ℕ, zero, suc, _+_}

@@ -1,4 +1,4 @@
--- What a case with a file's bytes compares: the reader's number and columns, and the bytes that the program `density` prints. Definitions only.
+-- The replay: what a case with a file's bytes compares: the reader's number and columns, and the bytes that the program `density` prints. Definitions only.
 use mathlib.Core.Bool.{Bool, false, cond, _&&_}
 use mathlib.Core.List.{List}
 use Prim.Native.Nat.{ℕ, _+_, _*_}

@@ -1,4 +1,4 @@
--- What a case of a matrix or a map compares: the matrix or map, then the vectors, each as its length and its numbers. Definitions only.
+-- The replay: what a case of a matrix or a map compares: the matrix or map, then the vectors, each as its length and its numbers. Definitions only.
 use mathlib.Core.Bool.{Bool, false, cond, _&&_}
 use mathlib.Core.List.{List}
 use Prim.Native.Nat.{ℕ, _+_, _*_}

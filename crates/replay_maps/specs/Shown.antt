@@ -1,4 +1,4 @@
--- A display value, held to a stored word of two's complement. Definitions only.
+-- The replay: a display value, held to a stored word of two's complement. Definitions only.
 use mathlib.Core.Bool.{Bool, false, cond, _&&_}
 use mathlib.Core.List.{List}
 use Prim.Native.Nat.{ℕ, _+_, _-_}

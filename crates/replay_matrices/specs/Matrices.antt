@@ -1,4 +1,4 @@
--- What a case of the inductance matrix compares: behind the rule and the mesh stands the output's length, then number and cells. Definitions only.
+-- The replay: what a case of the inductance matrix compares: behind the rule and the mesh stands the output's length, then number and cells. Definitions only.
 use mathlib.Core.Bool.{Bool, false, cond, _&&_}
 use mathlib.Core.List.{List}
 use Prim.Native.Nat.{ℕ, _+_}

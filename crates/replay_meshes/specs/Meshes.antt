@@ -1,4 +1,4 @@
--- What a case of each kind with a mesh compares: the mesh as six columns, further inputs and the results behind it. Definitions only.
+-- The replay: what a case of each kind with a mesh compares: the mesh as six columns, further inputs and the results behind it. Definitions only.
 use mathlib.Core.Bool.{Bool, false, cond, _&&_}
 use mathlib.Core.List.{List}
 use Prim.Native.Nat.{ℕ, _+_}

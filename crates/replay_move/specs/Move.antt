@@ -1,4 +1,4 @@
--- What a case of the move compares: number, count, matrix and nodes; on a refusal matrix and nodes with what they were. Definitions only.
+-- The replay: what a case of the move compares: number, count, matrix and nodes; on a refusal matrix and nodes with what they were. Definitions only.
 use mathlib.Core.Bool.{Bool, false, cond}
 use mathlib.Core.List.{List}
 use Prim.Native.Nat.{ℕ, _+_}

@@ -1,4 +1,4 @@
--- A lent buffer after a call: what is due, or on a refusal the pattern that it was lent with. Definitions, with the equations of those that recur.
+-- The replay: a lent buffer after a call: what is due, or on a refusal the pattern that it was lent with. Definitions, with the equations of those that recur.
 use mathlib.Core.Path.{_≡_}
 use mathlib.Core.Bool.{Bool, true, cond, _&&_}
 use mathlib.Core.List.{List}

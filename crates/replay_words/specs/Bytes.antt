@@ -1,4 +1,4 @@
--- Bytes in a stored case: where they end, and their comparison. Definitions, with the equation of the one that recurs.
+-- The replay: bytes in a stored case: where they end, and their comparison. Definitions, with the equation of the one that recurs.
 use mathlib.Core.Path.{_≡_}
 use mathlib.Core.Bool.{Bool, true, _&&_}
 use mathlib.Core.List.{List}

@@ -1,4 +1,4 @@
--- A stored case as 2,048 words, and how a result is held to it: bit by bit, every NaN as one number. Definitions only.
+-- The replay: a stored case as 2,048 words, and how a result is held to it: bit by bit, every NaN as one number. Definitions only.
 use mathlib.Core.Bool.{Bool, cond, _&&_}
 use mathlib.Core.List.{List, [], _∷_}
 use Prim.Native.Nat.{ℕ, _+_, _-_, _^_}

@@ -1,4 +1,4 @@
--- How far two numbers are apart in units in the last place, and the most over a table. Definitions only.
+-- The program `worked_examples`: how far two numbers are apart in units in the last place, and the most over a table. Definitions only.
 use mathlib.Core.Path.{_≡_}
 use mathlib.Core.Bool.{cond}
 use mathlib.Core.List.{List, []}

@@ -1,9 +1,10 @@
 //! Inductance of conducting screens given as triangle panels.
 //!
-//! Safe Rust over a static library in which every function is proved to meet its contract: the answers are those of the
-//! triangle boundary-element part of cfsem, bit for bit. Names, modules, signatures and the order of arguments are the
-//! original's, so `cfsem::physics::boundary_element::…` becomes `screens::physics::boundary_element::…`; what the original
-//! refuses with a text is a [`Refusal`] here. Units are metres, amperes and henries.
+//! Safe Rust over a static library in which every function is proved to meet its contract: its answers are those of written
+//! definitions, on every input. That the definitions are those of the triangle boundary-element part of cfsem, bit for bit, is
+//! compared on millions of cases. Names, modules and the order of arguments are the original's, so
+//! `cfsem::physics::boundary_element::…` becomes `screens::physics::boundary_element::…`; what the original refuses with a text
+//! is a [`Refusal`] here. Units are metres, amperes and henries.
 //!
 //! ```
 //! use screens::{QuadratureKind, TriangleMeshView, triangle_mesh_inductance_matrix, triangle_mesh_inductive_energy};
