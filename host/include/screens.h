@@ -25,16 +25,20 @@
  *   15 file length      the length is not the one the counts give
  *   16 display          not finite, or rounded size above 10^15 nanohenries
  * The numbers that a function can return stand at it in the order in which they are looked for. On a refusal every lent
- * single number (value, count, offset, length) is set to 0, and every lent slice is as it was.
+ * single number (value, count, offset, length) is set to 0, and every lent array and slice is as it was.
  *
- * Slices. A slice is a pointer and its length in elements, in that order. The pointer must not be null, must be aligned for
- * its type and must be good for that many elements; for an empty slice any such pointer will do, as the address of any
- * variable of the type. A pointer to a single number must be good for one.
+ * Arrays. A vector is three numbers, x, y, z; a triangle nine, corner after corner; what is handed back of a panel or a pair
+ * has the count that stands in the brackets. Such an array is one pointer, good for that many elements.
  *
- * What is written must not overlap anything else that is lent to the call. What is only read may overlap.
+ * Slices. What has no fixed size is a slice: a pointer and its length in elements, in that order. The pointer must be good for
+ * that many elements; for an empty slice any pointer will do that is not null and aligned, as the address of any variable of
+ * the type. A pointer to a single number must be good for one.
  *
- * Triangles are nine numbers, corner after corner; a0, a1, a2 is x, y, z of corner a. A mesh is six columns: x, y, z of the
- * nodes, and for each panel the nodes t0, t1, t2 of its corners; every call tests its mesh itself.
+ * No pointer may be null, and each must be aligned for its type. What is written must not overlap anything else that is lent
+ * to the call: screens_add3(a, b, a) is not allowed. What is only read may overlap.
+ *
+ * A mesh is six columns: x, y, z of the nodes, and for each panel the nodes t0, t1, t2 of its corners; every call tests its
+ * mesh itself.
  *
  * The functions keep nothing, allocate nothing and take no lock: any number of threads may call them at once. Give a thread
  * that calls them at least 2 MB of stack: they are tested on such threads, and may run out on smaller ones. size_t has 64
@@ -83,133 +87,105 @@ double screens_asinh(double x);
 /* The angle of the point (x, y), by document 01's series. */
 double screens_atan2(double y, double x);
 
-/* ---- vectors: out has 3 places; another length is 6 -------------------------------------------------------------- */
+/* ---- vectors: no refusals ---------------------------------------------------------------------------------------- */
 
 /* The scalar product, fused. */
-double screens_dot3(double a0, double a1, double a2, double b0, double b1, double b2);
+double screens_dot3(const double a[3], const double b[3]);
 
 /* The length. */
-double screens_norm3(double a0, double a1, double a2);
+double screens_norm3(const double a[3]);
 
-/* The cross product, fused. Refuses with 6. */
-uint32_t screens_cross3(double a0, double a1, double a2, double b0, double b1, double b2, double *out, size_t n);
+/* The cross product, fused. */
+void screens_cross3(const double a[3], const double b[3], double out[3]);
 
-/* a - b. Refuses with 6. */
-uint32_t screens_sub3(double a0, double a1, double a2, double b0, double b1, double b2, double *out, size_t n);
+/* a - b. */
+void screens_sub3(const double a[3], const double b[3], double out[3]);
 
-/* a + b. Refuses with 6. */
-uint32_t screens_add3(double a0, double a1, double a2, double b0, double b1, double b2, double *out, size_t n);
+/* a + b. */
+void screens_add3(const double a[3], const double b[3], double out[3]);
 
-/* scale * a. Refuses with 6. */
-uint32_t screens_scale3(double a0, double a1, double a2, double scale, double *out, size_t n);
+/* scale * a. */
+void screens_scale3(const double a[3], double scale, double out[3]);
 
-/* a + scale * b, fused. Refuses with 6. */
-uint32_t screens_add_scaled3(double a0, double a1, double a2, double b0, double b1, double b2, double scale,
-    double *out, size_t n);
+/* a + scale * b, fused. */
+void screens_add_scaled3(const double a[3], const double b[3], double scale, double out[3]);
 
-/* a over its length. Refuses with 6. */
-uint32_t screens_normalize3(double a0, double a1, double a2, double *out, size_t n);
+/* a over its length. */
+void screens_normalize3(const double a[3], double out[3]);
 
-/* ---- one panel, with corners a, b and c: any triangle is taken, degenerate or not -------------------------------- */
+/* ---- one panel: no refusals; any triangle is taken, degenerate or not -------------------------------------------- */
 
 /* The area (square metres). */
-double screens_area(double a0, double a1, double a2, double b0, double b1, double b2, double c0, double c1, double c2);
+double screens_area(const double t[9]);
 
 /* 1 for equal edges, towards 0 for a sliver; a panel is poor if it is below 1e-3. */
-double screens_quality(double a0, double a1, double a2, double b0, double b1, double b2, double c0, double c1,
-    double c2);
+double screens_quality(const double t[9]);
 
-/* The unit normal: 3 places. Refuses with 6. */
-uint32_t screens_normal(double a0, double a1, double a2, double b0, double b1, double b2, double c0, double c1,
-    double c2, double *out, size_t n);
+/* The unit normal. */
+void screens_normal(const double t[9], double out[3]);
 
-/* The point at (u, v) of the reference triangle (metres): 3 places. Refuses with 6. */
-uint32_t screens_map_point(double a0, double a1, double a2, double b0, double b1, double b2, double c0, double c1,
-    double c2, double u, double v, double *out, size_t n);
+/* The point at (u, v) of the reference triangle (metres). */
+void screens_map_point(const double t[9], double u, double v, double out[3]);
 
-/* The triangle's point closest to (x, y, z) (metres): 3 places. Refuses with 6. */
-uint32_t screens_closest_point(double x, double y, double z, double a0, double a1, double a2, double b0, double b1,
-    double b2, double c0, double c1, double c2, double *out, size_t n);
+/* The triangle's point closest to another (metres). */
+void screens_closest_point(const double point[3], const double t[9], double out[3]);
 
-/* The panel's record: corners 9, normal 3, edge tangents 9, outward edges 9, edge lengths 3, longest edge 1: 34
-   places. Refuses with 6. */
-uint32_t screens_record(double a0, double a1, double a2, double b0, double b1, double b2, double c0, double c1,
-    double c2, double *out, size_t n);
+/* The panel's record: corners 9, normal 3, edge tangents 9, outward edges 9, edge lengths 3, longest edge 1. */
+void screens_record(const double t[9], double out[34]);
 
-/* The potential (metres) of the panel at (x, y, z). */
-double screens_potential(double a0, double a1, double a2, double b0, double b1, double b2, double c0, double c1,
-    double c2, double x, double y, double z);
+/* The potential (metres) of the panel at a point. */
+double screens_potential(const double t[9], const double point[3]);
 
-/* The gradient of the potential: 3 places. Refuses with 6. */
-uint32_t screens_gradient(double a0, double a1, double a2, double b0, double b1, double b2, double c0, double c1,
-    double c2, double x, double y, double z, double *out, size_t n);
+/* The gradient of the potential. */
+void screens_gradient(const double t[9], const double point[3], double out[3]);
 
-/* Whether (x, y, z) lies on the panel, within the original's tolerance. */
-bool screens_contact(double a0, double a1, double a2, double b0, double b1, double b2, double c0, double c1,
-    double c2, double x, double y, double z);
+/* Whether a point lies on the panel, within the original's tolerance. */
+bool screens_contact(const double t[9], const double point[3]);
 
-/* The current densities (1/m) of a unit value at each corner, corner after corner: 9 places. Refuses with 6. */
-uint32_t screens_basis_current_densities(double a0, double a1, double a2, double b0, double b1, double b2, double c0,
-    double c1, double c2, double *out, size_t n);
+/* The current densities (1/m) of a unit value at each corner, corner after corner. */
+void screens_basis_current_densities(const double t[9], double out[9]);
 
-/* The current density (A/m) of the values s (amperes) at the corners: 3 places. Refuses with 6. */
-uint32_t screens_current_density(double a0, double a1, double a2, double b0, double b1, double b2, double c0,
-    double c1, double c2, double s0, double s1, double s2, double *out, size_t n);
+/* The current density (A/m) of the values s (amperes) at the corners. */
+void screens_current_density(const double t[9], const double s[3], double out[3]);
 
-/* The two halves of the triangle, cut at its longest edge: 18 places. Refuses with 6. */
-uint32_t screens_longest_edge_bisection(double a0, double a1, double a2, double b0, double b1, double b2, double c0,
-    double c1, double c2, double *out, size_t n);
+/* The two halves of the triangle, cut at its longest edge. */
+void screens_longest_edge_bisection(const double t[9], double out[18]);
 
 /* The squared length (square metres) of the longest edge. */
-double screens_triangle_max_edge_squared(double a0, double a1, double a2, double b0, double b1, double b2, double c0,
-    double c1, double c2);
+double screens_triangle_max_edge_squared(const double t[9]);
 
-/* ---- two panels: source a, b, c and target d, e, f --------------------------------------------------------------- */
+/* ---- two panels -------------------------------------------------------------------------------------------------- */
 
 /* Whether each corner of the source is within 1e-12 m of some corner of the target. */
-bool screens_triangles_identical(double a0, double a1, double a2, double b0, double b1, double b2, double c0,
-    double c1, double c2, double d0, double d1, double d2, double e0, double e1, double e2, double f0, double f1,
-    double f2);
+bool screens_triangles_identical(const double source[9], const double target[9]);
 
 /* The squared distance (square metres) of the boxes around them. */
-double screens_triangle_aabb_distance_squared(double a0, double a1, double a2, double b0, double b1, double b2,
-    double c0, double c1, double c2, double d0, double d1, double d2, double e0, double e1, double e2, double f0,
-    double f1, double f2);
+double screens_triangle_aabb_distance_squared(const double source[9], const double target[9]);
 
 /* The squared distance (square metres) of the panels. */
-double screens_triangle_distance_squared(double a0, double a1, double a2, double b0, double b1, double b2, double c0,
-    double c1, double c2, double d0, double d1, double d2, double e0, double e1, double e2, double f0, double f1,
-    double f2);
+double screens_triangle_distance_squared(const double source[9], const double target[9]);
 
 /* Whether the far rule is used for the pair. */
-bool screens_is_far(double a0, double a1, double a2, double b0, double b1, double b2, double c0, double c1, double c2,
-    double d0, double d1, double d2, double e0, double e1, double e2, double f0, double f1, double f2);
+bool screens_is_far(const double source[9], const double target[9]);
 
 /* The geometric coupling (cubic metres), under quadrature rule 1 to 5. Refuses with 12. */
-uint32_t screens_coupling(uint32_t rule, double a0, double a1, double a2, double b0, double b1, double b2, double c0,
-    double c1, double c2, double d0, double d1, double d2, double e0, double e1, double e2, double f0, double f1,
-    double f2, double *value);
+uint32_t screens_coupling(uint32_t rule, const double source[9], const double target[9], double *value);
 
 /* The far rule's coupling (cubic metres) from source to target only. Refuses with 12. */
-uint32_t screens_coupling_regular(uint32_t rule, double a0, double a1, double a2, double b0, double b1, double b2,
-    double c0, double c1, double c2, double d0, double d1, double d2, double e0, double e1, double e2, double f0,
-    double f1, double f2, double *value);
+uint32_t screens_coupling_regular(uint32_t rule, const double source[9], const double target[9], double *value);
 
 /* The inductance (henries) between corner i of the source and corner j of the target. Refuses with 12, also for a
    corner above 2. */
-uint32_t screens_mutual_inductance(uint32_t rule, double a0, double a1, double a2, double b0, double b1, double b2,
-    double c0, double c1, double c2, size_t i, double d0, double d1, double d2, double e0, double e1, double e2,
-    double f0, double f1, double f2, size_t j, double *value);
+uint32_t screens_mutual_inductance(uint32_t rule, const double source[9], size_t i, const double target[9], size_t j,
+    double *value);
 
-/* The inductances (henries) between all corners, a row a source corner: 9 places. Refuses with 12, 6. */
-uint32_t screens_mutual_inductance_block(uint32_t rule, double a0, double a1, double a2, double b0, double b1,
-    double b2, double c0, double c1, double c2, double d0, double d1, double d2, double e0, double e1, double e2,
-    double f0, double f1, double f2, double *out, size_t n);
+/* The inductances (henries) between all corners, a row a source corner. Refuses with 12. */
+uint32_t screens_mutual_inductance_block(uint32_t rule, const double source[9], const double target[9],
+    double out[9]);
 
-/* The sum of s * block * t (H A^2) for a block of nine numbers m, row by row, and values s of the source and t of
-   the target (amperes). */
-double screens_inductance_from_potentials(double m0, double m1, double m2, double m3, double m4, double m5, double m6,
-    double m7, double m8, double s0, double s1, double s2, double t0, double t1, double t2);
+/* The sum of s * block * t (H A^2) for a block of nine numbers, row by row, and values s of the source and t of the
+   target (amperes). */
+double screens_inductance_from_potentials(const double block[9], const double s[3], const double t[3]);
 
 /* ---- meshes ------------------------------------------------------------------------------------------------------ */
 

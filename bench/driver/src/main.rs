@@ -19,19 +19,29 @@ unsafe extern "C" {
     safe fn screens_ln(x: f64) -> f64;
     safe fn screens_asinh(x: f64) -> f64;
     safe fn screens_atan2(y: f64, x: f64) -> f64;
-    safe fn screens_dot3(a0: f64, a1: f64, a2: f64, b0: f64, b1: f64, b2: f64) -> f64;
-    safe fn screens_norm3(a0: f64, a1: f64, a2: f64) -> f64;
-    fn screens_cross3(a0: f64, a1: f64, a2: f64, b0: f64, b1: f64, b2: f64, out: *mut f64, length: usize) -> u32;
+    safe fn screens_dot3(a: &[f64; 3], b: &[f64; 3]) -> f64;
+    safe fn screens_norm3(a: &[f64; 3]) -> f64;
+    safe fn screens_cross3(a: &[f64; 3], b: &[f64; 3], out: &mut [f64; 3]);
 
     fn clock_gettime(clock: c_int, time: *mut [c_long; 2]) -> c_int;
     fn dlopen(path: *const c_char, flags: c_int) -> *mut c_void;
     fn dlsym(library: *mut c_void, name: *const c_char) -> *mut c_void;
 }
 
+/// The two vectors of an input.
+#[inline(always)]
+fn vectors(x: &Input) -> (&[f64; 3], &[f64; 3]) {
+    (
+        x.first_chunk().expect("six numbers"),
+        x.last_chunk().expect("six numbers"),
+    )
+}
+
 #[inline(always)]
 fn our_cross3(x: &Input) -> [f64; 3] {
     let mut out = [0.0; 3];
-    unsafe { screens_cross3(x[0], x[1], x[2], x[3], x[4], x[5], out.as_mut_ptr(), 3) };
+    let (a, b) = vectors(x);
+    screens_cross3(a, b, &mut out);
     out
 }
 
@@ -44,9 +54,9 @@ implementation! {
     4 => |x| screens_ln(x[0]),
     5 => |x| screens_asinh(x[0]),
     6 => |x| screens_atan2(x[0], x[1]),
-    7 => |x| screens_dot3(x[0], x[1], x[2], x[3], x[4], x[5]),
+    7 => |x| screens_dot3(vectors(x).0, vectors(x).1),
     8 => |x| our_cross3(x),
-    9 => |x| screens_norm3(x[0], x[1], x[2]),
+    9 => |x| screens_norm3(vectors(x).0),
 }
 
 #[inline]

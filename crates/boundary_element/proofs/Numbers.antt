@@ -1,14 +1,16 @@
 -- The number of the call on a mesh by its conditions: 5 and 6 stand behind the mesh's checks, and the laws of a call that tests its mesh do the rest.
 use mathlib.Core.Path.{_≡_}
 use mathlib.Core.Logic.{_↔_}
-use mathlib.Core.Bool.{false, not, _||_}
-use mathlib.Core.List.{[], _∷_, _++_}
+use mathlib.Core.Bool.{false, not}
+use mathlib.Core.List.{[], _∷_}
 use Prim.Native.Nat.{ℕ}
 use borrow.Author.Tests.{eq-eqb}
 use lib.Dec.{eqb}
-use Rattle.mesh.specs.Refusal.{check, applies-first, nodalValues, outputLength}
+use Rattle.refusal.specs.Numbers.{nodalValues, outputLength}
+use Rattle.refusal.specs.Checks.{check}
+use Rattle.refusal.proofs.Checks.{applies-first}
 use Rattle.mesh.specs.Mesh.{Mesh, nnode, ntri, maxNodes, maxPanels}
-use Rattle.mesh.proofs.Refusals.{on, or-off, differ-off}
+use Rattle.refusal.proofs.Tests.{on, or-off, differ-off}
 use Rattle.mesh.proofs.Calls.{call-behind, call-area, call-done, call-of-mesh}
 use Rattle.boundary_element.specs.CurrentDensity.{outputsDiffer, densityChecks, densityRefusal, OutputsDue, DensityNumbered}
 

@@ -4,7 +4,8 @@ use mathlib.Core.List.{List}
 use lib.Ieee.{Float}
 use lib.ListN.{length}
 use Rattle.mesh.specs.Mesh.{Mesh, nnode, ntri, maxNodes, maxPanels}
-use Rattle.mesh.proofs.Refusals.{mesh-accepted, or-off}
+use Rattle.refusal.proofs.Tests.{or-off}
+use Rattle.mesh.proofs.Refusals.{mesh-accepted}
 use Rattle.mesh_points.proofs.Ready.{equal}
 use Rattle.boundary_element.specs.CurrentDensity.{outputsDiffer, densityChecks, densityRefusal, Ready}
 

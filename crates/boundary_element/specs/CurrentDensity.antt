@@ -10,10 +10,11 @@ use lib.Ieee.{Float}
 use Rattle.binary64.specs.Binary64.{_⊕_, _⊖_, _⊗_, _⊘_, at}
 use Rattle.math.specs.Math.{Vec, sub3}
 use Rattle.tri.specs.Mapping.{Tri, corner, area}
-use Rattle.mesh.specs.Refusal.{Check, check, first, after, nodalValues, outputLength, zeroArea}
-use Rattle.mesh.specs.Filling.{tabulate}
+use Rattle.refusal.specs.Numbers.{nodalValues, outputLength, zeroArea}
+use Rattle.refusal.specs.Checks.{Check, check, first, after}
+use Rattle.lists.specs.Filling.{tabulate}
 use Rattle.mesh.specs.Conditions.{Refused4, Accepted, MeshNumbered}
-use Rattle.mesh.specs.Mesh.{Mesh, nnode, ntri, triangleIndices, triangleNodes, lengthsDiffer, meshChecks, maxNodes, maxPanels}
+use Rattle.mesh.specs.Mesh.{Mesh, nnode, ntri, triangleIndices, triangleNodes, meshChecks, maxNodes, maxPanels}
 
 -- the triangle with corner 1 first, then 2 and 0
 abbrev pub turned : Tri → Tri
@@ -52,6 +53,10 @@ panelDensity m s i = triangleCurrentDensity (triangleNodes m i) (triangleScalars
 -- component c of the density of every panel
 unfoldable pub currentDensities : Mesh → List Float → ℕ → List Float
 currentDensities m s c = tabulate (ntri m) (λ i. at (panelDensity m s i) c)
+
+-- three columns with the densities of every panel
+abbrev pub Currents : Mesh → List Float → List Float → List Float → List Float → Type 0
+Currents m s jx jy jz = (jx ≡ currentDensities m s 0) × (jy ≡ currentDensities m s 1) × (jz ≡ currentDensities m s 2)
 
 -- 6: an output that has not one number a panel
 unfoldable pub outputsDiffer : ℕ → ℕ → ℕ → ℕ → Bool

@@ -2,7 +2,8 @@
 ghost use mathlib.Core.Path.{_≡_};
 ghost use Prim.Native.Nat.{_<_};
 ghost use lib.ListN.{length, getD};
-ghost use Rattle.mesh.specs.Mesh.{meshOf, maxNodes, maxPanels};
+ghost use Rattle.lists.specs.Lent.{passed, left};
+ghost use Rattle.mesh.specs.Mesh.{maxNodes, maxPanels, passedMesh, lentMesh};
 ghost use Rattle.mesh.specs.Conditions.{Accepted};
 ghost use Rattle.boundary_element.specs.CurrentDensity as Spec;
 ghost use Rattle.boundary_element.specs.CurrentDensity.{Stored, Ready, Densities};
@@ -56,7 +57,7 @@ pub fn triangle_current_density(t: [[f64; 3]; 3], s: [f64; 3]) -> [f64; 3]
 // The nodal values at three nodes.
 fn triangle_scalars(indices: [usize; 3], s: &[f64]) -> [f64; 3]
     requires { ⌜ (getD indices 0 0 < length (now s)) × (getD indices 1 0 < length (now s)) × (getD indices 2 0 < length (now s)) ⌝ }
-    ensures { λ r. ⌜ r ≡ Spec.triangleScalars indices (now (s .entry)) ⌝ }
+    ensures { λ r. ⌜ r ≡ Spec.triangleScalars indices (passed s) ⌝ }
 {
     [s[indices[0]], s[indices[1]], s[indices[2]]]
 }
@@ -72,9 +73,9 @@ fn panel_density(
     s: &[f64],
     i: usize,
 ) -> [f64; 3]
-    requires { ⌜ Accepted maxNodes maxPanels (meshOf (now x) (now y) (now z) (now t0) (now t1) (now t2)) ⌝ }
+    requires { ⌜ Accepted maxNodes maxPanels (lentMesh x y z t0 t1 t2) ⌝ }
     requires { ⌜ (length (now s) ≡ length (now x)) × (i < length (now t0)) ⌝ }
-    ensures { λ r. ⌜ r ≡ Spec.panelDensity (meshOf (now (x .entry)) (now (y .entry)) (now (z .entry)) (now (t0 .entry)) (now (t1 .entry)) (now (t2 .entry))) (now (s .entry)) i ⌝ }
+    ensures { λ r. ⌜ r ≡ Spec.panelDensity (passedMesh x y z t0 t1 t2) (passed s) i ⌝ }
 {
     let t = mesh::triangle_nodes(x, y, z, t0, t1, t2, i);
     let v = triangle_scalars(mesh::triangle_indices(t0, t1, t2, i), s);
@@ -84,7 +85,7 @@ fn panel_density(
 // A vector's components, each into its column at i.
 pub fn store3(a: &mut [f64], b: &mut [f64], c: &mut [f64], i: usize, v: [f64; 3])
     requires { ⌜ (i < length (now a)) × (i < length (now b)) × (i < length (now c)) ⌝ }
-    ensures { λ _. ⌜ Stored (now (a .entry)) (now (b .entry)) (now (c .entry)) i v (now (a .exit)) (now (b .exit)) (now (c .exit)) ⌝ }
+    ensures { λ _. ⌜ Stored (passed a) (passed b) (passed c) i v (left a) (left b) (left c) ⌝ }
 {
     a[i] = v[0];
     b[i] = v[1];
@@ -104,8 +105,8 @@ fn fill_densities(
     jy: &mut [f64],
     jz: &mut [f64],
 )
-    requires { ⌜ Ready (meshOf (now x) (now y) (now z) (now t0) (now t1) (now t2)) (now s) (now jx) (now jy) (now jz) ⌝ }
-    ensures { λ _. ⌜ (now (jx .exit) ≡ Spec.currentDensities (meshOf (now (x .entry)) (now (y .entry)) (now (z .entry)) (now (t0 .entry)) (now (t1 .entry)) (now (t2 .entry))) (now (s .entry)) 0) × (now (jy .exit) ≡ Spec.currentDensities (meshOf (now (x .entry)) (now (y .entry)) (now (z .entry)) (now (t0 .entry)) (now (t1 .entry)) (now (t2 .entry))) (now (s .entry)) 1) × (now (jz .exit) ≡ Spec.currentDensities (meshOf (now (x .entry)) (now (y .entry)) (now (z .entry)) (now (t0 .entry)) (now (t1 .entry)) (now (t2 .entry))) (now (s .entry)) 2) ⌝ }
+    requires { ⌜ Ready (lentMesh x y z t0 t1 t2) (now s) (now jx) (now jy) (now jz) ⌝ }
+    ensures { λ _. ⌜ Spec.Currents (passedMesh x y z t0 t1 t2) (passed s) (left jx) (left jy) (left jz) ⌝ }
 {
     let mut i = 0;
     while i < t0.len() {
@@ -134,17 +135,17 @@ fn density_refusal(
     ly: usize,
     lz: usize,
 ) -> u32
-    ensures { λ r. ⌜ r ≡ Spec.densityRefusal (meshOf (now (x .entry)) (now (y .entry)) (now (z .entry)) (now (t0 .entry)) (now (t1 .entry)) (now (t2 .entry))) values lx ly lz ⌝ }
+    ensures { λ r. ⌜ r ≡ Spec.densityRefusal (passedMesh x y z t0 t1 t2) values lx ly lz ⌝ }
 {
     let refusal = mesh::mesh_refusal(x, y, z, t0, t1, t2);
     if refusal != 0 {
         return refusal;
     }
     if values != x.len() {
-        return mesh::NODAL_VALUES;
+        return refusal::NODAL_VALUES;
     }
     if outputs_differ(t0.len(), lx, ly, lz) {
-        return mesh::OUTPUT_LENGTH;
+        return refusal::OUTPUT_LENGTH;
     }
     0
 }
@@ -162,7 +163,7 @@ pub fn triangle_mesh_current_density(
     jy: &mut [f64],
     jz: &mut [f64],
 ) -> u32
-    ensures { λ r. ⌜ Densities (meshOf (now (x .entry)) (now (y .entry)) (now (z .entry)) (now (t0 .entry)) (now (t1 .entry)) (now (t2 .entry))) (now (s .entry)) (now (jx .entry)) (now (jy .entry)) (now (jz .entry)) r (now (jx .exit)) (now (jy .exit)) (now (jz .exit)) ⌝ }
+    ensures { λ r. ⌜ Densities (passedMesh x y z t0 t1 t2) (passed s) (passed jx) (passed jy) (passed jz) r (left jx) (left jy) (left jz) ⌝ }
 {
     let refusal = density_refusal(x, y, z, t0, t1, t2, s.len(), jx.len(), jy.len(), jz.len());
     if refusal != 0 {

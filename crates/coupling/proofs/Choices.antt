@@ -1,9 +1,9 @@
 -- When the calls answer 12 and when 0, without the chain of tests: 12 exactly at a number outside 1 to 5 or, for an entry, a corner above 2. A call answers one of the two, so that the one
 -- condition settles both (`settled`).
-use mathlib.Core.Path.{_≡_, refl, sym, _∙_}
-use mathlib.Core.Logic.{_↔_, _⊎_, inl, inr}
+use mathlib.Core.Path.{_≡_, refl}
+use mathlib.Core.Logic.{_↔_, inl, inr}
 use mathlib.Core.Bool.{Bool, true, false, _||_, cond}
-use Prim.Native.Nat.{ℕ, _+_, _*_, _<_, _≤_}
+use Prim.Native.Nat.{ℕ, _+_, _*_, _≤_}
 use native.Mathlib.Omega.{arith}
 use borrow.Author.Tests.{ltb-true, ltb-false}
 use lib.Dec.{ltb}
@@ -15,7 +15,7 @@ use Rattle.tri.specs.declared.quadrature.QuadratureKind.{QuadratureKind}
 use Rattle.tri.specs.declared.quadrature.Rule.{Rule}
 use Rattle.tri.specs.declared.quadrature.Rule.the-variants.{Known, Unknown}
 use Rattle.tri.proofs.Rules.{rule-off, rule-on}
-use Rattle.mesh.specs.Refusal.{noSuchChoice}
+use Rattle.refusal.specs.Numbers.{noSuchChoice}
 use Rattle.coupling.specs.Coupling.{geometricCoupling, geometricCouplingRegular}
 use Rattle.coupling.specs.Block.{mutualInductanceBlock}
 use Rattle.coupling.specs.Calls.{refused, answerOf, blockOf, triangleGeometricCoupling, triangleGeometricCouplingRegular, triangleBasisMutualInductanceBlock, triangleBasisMutualInductance, ChoiceNumbered, NoSuchEntry}

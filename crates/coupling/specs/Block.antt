@@ -1,8 +1,7 @@
 -- inductance.rs: the mutual inductance of the corners of two triangles, three by three, in nine numbers row by row.
-use mathlib.Core.Path.{_≡_, refl}
 use Prim.Native.Nat.{ℕ, _+_, _*_}
 use mathlib.Core.List.{List, [], _∷_, _++_}
-use lib.ListN.{getD, length}
+use lib.ListN.{getD}
 use lib.Ieee.{Float}
 use Rattle.binary64.specs.Binary64.{_⊕_, _⊗_, at, plusZero}
 use Rattle.math.specs.Math.{Vec, dot3, mu0Over4Pi}
@@ -25,11 +24,6 @@ blockFromCoupling g ksrc ktgt = blockRow g (getD ksrc 0 []) ktgt ++ blockRow g (
 unfoldable pub mutualInductanceBlock : QuadratureKind → Tri → Tri → List Float
 mutualInductanceBlock kind source target =
     blockFromCoupling (geometricCoupling kind source target) (triangleBasisCurrentDensities source) (triangleBasisCurrentDensities target)
-
--- a block is nine numbers
-pub block-length : (kind : QuadratureKind) (source target : Tri) → length (mutualInductanceBlock kind source target) ≡ 9
-unfolding mutualInductanceBlock blockFromCoupling blockRow
-block-length kind source target = refl
 
 -- (s_i · M_ij) · t_j
 abbrev pub term : List Float → List Float → List Float → ℕ → ℕ → Float

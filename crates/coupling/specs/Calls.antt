@@ -12,8 +12,8 @@ use Rattle.tri.specs.Quadrature.{quadratureRule, NoSuchRule}
 use Rattle.tri.specs.declared.quadrature.QuadratureKind.{QuadratureKind}
 use Rattle.tri.specs.declared.quadrature.Rule.{Rule}
 use Rattle.tri.specs.declared.quadrature.Rule.the-variants.{Known, Unknown}
-use Rattle.mesh.specs.Refusal.{noSuchChoice}
-use Rattle.coupling.specs.declared.calls.Answer.{Answer}
+use Rattle.refusal.specs.Numbers.{noSuchChoice}
+use Rattle.refusal.specs.declared.Answer.{Answer}
 use Rattle.coupling.specs.declared.calls.BlockAnswer.{BlockAnswer}
 use Rattle.coupling.specs.Coupling.{geometricCoupling, geometricCouplingRegular}
 use Rattle.coupling.specs.Block.{mutualInductanceBlock}

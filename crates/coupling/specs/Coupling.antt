@@ -1,13 +1,12 @@
 -- inductance.rs: the geometric coupling ∫∫ 1/R dS' dS of two triangles, by the far or the near rule.
 -- Definitions, with the equations of the two that recur.
-use mathlib.Core.Path.{_≡_, refl}
-use Prim.Native.Nat.{ℕ, zero, suc, _+_, _-_}
+use Prim.Native.Nat.{ℕ, zero, suc}
 use mathlib.Core.Bool.{Bool, cond, not, _&&_, _||_}
 use mathlib.Core.List.{List, []}
-use native.Mathlib.Numerals.{add-one, sub-one}
 use lib.ListN.{getD}
 use lib.Ieee.{Float, lt}
-use Rattle.binary64.specs.Binary64.{_⊕_, _⊗_, _⊘_, at, plusZero, half}
+use Rattle.lists.specs.Sums.{sumTo}
+use Rattle.binary64.specs.Binary64.{_⊕_, _⊗_, _⊘_, at, half}
 use Rattle.ieee754.specs.Ieee754.{max}
 use Rattle.math.specs.Math.{Vec, sub3, norm3}
 use Rattle.tri.specs.Mapping.{Tri, area, mapPoint}
@@ -22,14 +21,8 @@ use Rattle.panel_distance.specs.Bisection.{longestEdgeBisection}
 
 -- ---- sums over a rule's rows
 -- f of each of the first k rows, added in their order to +0
-unfoldable pub rowsTo : QuadratureKind → (List Float → Float) → ℕ → Float
-rowsTo kind f zero = plusZero
-rowsTo kind f (suc k) = rowsTo kind f k ⊕ f (quadratureRow kind k)
-
--- one row more
-pub rows-more : (kind : QuadratureKind) (f : List Float → Float) (k : ℕ) → rowsTo kind f (k + 1) ≡ rowsTo kind f k ⊕ f (quadratureRow kind k)
-unfolding rowsTo
-rows-more kind f k = rw add-one
+abbrev pub rowsTo : QuadratureKind → (List Float → Float) → ℕ → Float
+rowsTo kind f k = sumTo (λ j. f (quadratureRow kind j)) k
 
 -- all rows
 abbrev pub overRows : QuadratureKind → (List Float → Float) → Float
@@ -72,16 +65,6 @@ triangleGeometricCouplingExactFixed source target zero = triangleGeometricCoupli
 triangleGeometricCouplingExactFixed source target (suc depth) =
     let children = longestEdgeBisection target in
     triangleGeometricCouplingExactFixed source (getD children 0 []) depth ⊕ triangleGeometricCouplingExactFixed source (getD children 1 []) depth
-
-pub fixed-leaf : (source : UniformTriangle) (target : Tri) (depth : ℕ) → depth ≡ 0 → triangleGeometricCouplingExactFixed source target depth ≡ triangleGeometricCouplingExactDirected source target Dunavant5
-unfolding triangleGeometricCouplingExactFixed
-fixed-leaf source target depth e = rw e
-
-pub fixed-halves : (source : UniformTriangle) (target : Tri) (depth : ℕ) → (depth ≡ 0 → ⊥)
-    → triangleGeometricCouplingExactFixed source target depth ≡ triangleGeometricCouplingExactFixed source (getD (longestEdgeBisection target) 0 []) (depth - 1) ⊕ triangleGeometricCouplingExactFixed source (getD (longestEdgeBisection target) 1 []) (depth - 1)
-unfolding triangleGeometricCouplingExactFixed
-fixed-halves source target zero n = absurd (n refl)
-fixed-halves source target (suc depth) n = rw (sub-one (suc depth))
 
 -- ---- which rule
 -- far: not identical, and the boxes or, failing that, the panels further apart than the longest edge of the two

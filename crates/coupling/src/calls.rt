@@ -2,15 +2,11 @@
 use crate::block::mutual_inductance_block;
 use crate::coupling::geometric_coupling;
 use crate::coupling::geometric_coupling_regular;
+use refusal::Answer;
 use tri::quadrature::Rule;
 use tri::quadrature::quadrature_rule;
 ghost use mathlib.Core.Path.{_≡_};
 ghost use Rattle.coupling.specs.Calls as Spec;
-
-pub struct Answer {
-    pub refusal: u32,
-    pub value: f64,
-}
 
 pub struct BlockAnswer {
     pub refusal: u32,
@@ -22,7 +18,7 @@ fn refused() -> Answer
     ensures { λ r. ⌜ r ≡ Spec.refused ⌝ }
 {
     Answer {
-        refusal: mesh::NO_SUCH_CHOICE,
+        refusal: refusal::NO_SUCH_CHOICE,
         value: 0.0,
     }
 }
@@ -75,7 +71,7 @@ pub fn triangle_basis_mutual_inductance_block(
             values: mutual_inductance_block(kind, source, target),
         },
         Rule::Unknown => BlockAnswer {
-            refusal: mesh::NO_SUCH_CHOICE,
+            refusal: refusal::NO_SUCH_CHOICE,
             values: [0.0; 9],
         },
     }

@@ -9,8 +9,8 @@ use borrow.Author.Tests.{ne-eqb}
 use lib.ListN.{length, getD}
 use lib.Ieee.{nan}
 use Rattle.binary64.specs.Binary64.{at}
-use Rattle.mesh.specs.Filling.{tabulate-get}
-use Rattle.mesh.specs.Refusal.{first}
+use Rattle.lists.proofs.Filling.{tabulate-get}
+use Rattle.refusal.specs.Checks.{first}
 use Rattle.mesh.specs.Mesh.{triangleIndices, passesLimits, someMissesNode, someZeroArea}
 use Rattle.panel_file.specs.PanelFile.{valuePlace, lengthDue, nodeCount, panelCount, nodalValue, decode, marksDiffer, lengthDiffers, fileChecks, fileRefusal, Holds, IndicesBelow}
 use Rattle.panel_file.specs.Conditions.{AcceptedFile}

@@ -1,3 +1,4 @@
 pub mod Putting
 pub mod Numerals
 pub mod Inputs
+pub mod Examples

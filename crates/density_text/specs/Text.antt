@@ -8,7 +8,7 @@ use lib.ListN.{length, take, drop}
 use lib.Ieee.{Float, binary64, isNan, toBits}
 use Rattle.io.specs.Digits.{digits}
 use Rattle.binary64.specs.Binary64.{at}
-use Rattle.mesh.specs.Filling.{tabulate}
+use Rattle.lists.specs.Filling.{tabulate}
 use Rattle.boundary_element.specs.CurrentDensity.{panelDensity}
 use Rattle.panel_file.specs.LittleEndian.{rowsFrom}
 use Rattle.panel_file.specs.PanelFile.{nodeCount, panelCount, nodalValue, decode, fileRefusal}

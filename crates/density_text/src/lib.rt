@@ -1,8 +1,8 @@
 // Program `density` as a function from bytes to bytes: what it prints for its standard input.
 ghost use mathlib.Core.Path.{_≡_};
-ghost use mathlib.Core.List.{[], _∷_};
 ghost use Prim.Native.Nat.{_+_, _*_, _≤_, _<_};
 ghost use lib.ListN.{length};
+ghost use Rattle.lists.specs.Lent.{passed, left};
 ghost use Rattle.io.specs.Counts.{Counts};
 ghost use Rattle.boundary_element.specs.CurrentDensity.{panelDensity};
 ghost use Rattle.panel_file.specs.LittleEndian.{rowsFrom};
@@ -18,7 +18,7 @@ const MAX_PANELS: usize = 128;
 // Puts bytes into out from `from` on, and answers the index behind them.
 fn put(out: &mut [u8], from: usize, bytes: &[u8]) -> usize
     requires { ⌜ from + length (now bytes) ≤ length (now out) ⌝ }
-    ensures { λ r. ⌜ Put (now (out .entry)) from (now (bytes .entry)) (now (out .exit)) r ⌝ }
+    ensures { λ r. ⌜ Put (passed out) from (passed bytes) (left out) r ⌝ }
 {
     let mut k = 0;
     while k < bytes.len() {
@@ -31,7 +31,7 @@ fn put(out: &mut [u8], from: usize, bytes: &[u8]) -> usize
 // A number below 1,000 in decimal.
 fn put_decimal(out: &mut [u8], from: usize, n: usize) -> usize
     requires { ⌜ (n < 1000) × (from + 3 ≤ length (now out)) ⌝ }
-    ensures { λ r. ⌜ Put (now (out .entry)) from (Spec.decimal n) (now (out .exit)) r ⌝ }
+    ensures { λ r. ⌜ Put (passed out) from (Spec.decimal n) (left out) r ⌝ }
 {
     let mut digits = [0u8; 20];
     let k = io::decimal(n as u64, &mut digits);
@@ -51,7 +51,7 @@ pub fn canonical_bits(x: f64) -> u64
 // A space and a number's bits.
 fn put_field(out: &mut [u8], from: usize, x: f64) -> usize
     requires { ⌜ from + 17 ≤ length (now out) ⌝ }
-    ensures { λ r. ⌜ Put (now (out .entry)) from (Spec.field x) (now (out .exit)) r ⌝ }
+    ensures { λ r. ⌜ Put (passed out) from (Spec.field x) (left out) r ⌝ }
 {
     let mut digits = [0u8; 16];
     let k = io::hex(canonical_bits(x), 16, &mut digits);
@@ -62,7 +62,7 @@ fn put_field(out: &mut [u8], from: usize, x: f64) -> usize
 // The density of panel i of an accepted input.
 fn density(bytes: &[u8], n: usize, p: usize, i: usize) -> [f64; 3]
     requires { ⌜ Input n p (now bytes) × (i < p) ⌝ }
-    ensures { λ r. ⌜ r ≡ panelDensity (decode (now (bytes .entry))) (Spec.nodalValues (now (bytes .entry))) i ⌝ }
+    ensures { λ r. ⌜ r ≡ panelDensity (decode (passed bytes)) (Spec.nodalValues (passed bytes)) i ⌝ }
 {
     let t = panel_file::triangle_nodes(bytes, n, i);
     let k = panel_file::triangle_indices(bytes, n, i);
@@ -75,7 +75,7 @@ fn density(bytes: &[u8], n: usize, p: usize, i: usize) -> [f64; 3]
 // A panel's line, of at most 55 bytes.
 fn put_panel(out: &mut [u8], from: usize, i: usize, j: [f64; 3]) -> usize
     requires { ⌜ (i < 1000) × (from + 55 ≤ length (now out)) ⌝ }
-    ensures { λ r. ⌜ Put (now (out .entry)) from (Spec.line i j) (now (out .exit)) r ⌝ }
+    ensures { λ r. ⌜ Put (passed out) from (Spec.line i j) (left out) r ⌝ }
 {
     let a = put_decimal(out, from, i);
     let b = put_field(out, a, j[0]);
@@ -87,7 +87,7 @@ fn put_panel(out: &mut [u8], from: usize, i: usize, j: [f64; 3]) -> usize
 // Every panel's line.
 fn put_panels(out: &mut [u8], from: usize, bytes: &[u8], n: usize, p: usize) -> usize
     requires { ⌜ Input n p (now bytes) × (p ≤ 128) × (from + p * 55 ≤ length (now out)) ⌝ }
-    ensures { λ r. ⌜ Put (now (out .entry)) from (rowsFrom (Spec.panelLine (now (bytes .entry))) 0 p) (now (out .exit)) r ⌝ }
+    ensures { λ r. ⌜ Put (passed out) from (rowsFrom (Spec.panelLine (passed bytes)) 0 p) (left out) r ⌝ }
 {
     let mut to = from;
     let mut i = 0;
@@ -101,7 +101,7 @@ fn put_panels(out: &mut [u8], from: usize, bytes: &[u8], n: usize, p: usize) -> 
 // The line of a refusal.
 fn put_refused(out: &mut [u8], refusal: u32) -> usize
     requires { ⌜ (refusal < 1000) × (12 ≤ length (now out)) ⌝ }
-    ensures { λ r. ⌜ Put (now (out .entry)) 0 (Spec.refusedLine refusal) (now (out .exit)) r ⌝ }
+    ensures { λ r. ⌜ Put (passed out) 0 (Spec.refusedLine refusal) (left out) r ⌝ }
 {
     let a = put(out, 0, b"refused ");
     let b = put_decimal(out, a, refusal as usize);
@@ -111,7 +111,7 @@ fn put_refused(out: &mut [u8], refusal: u32) -> usize
 // Line one, of at most 14 bytes.
 fn put_first(out: &mut [u8], n: usize, p: usize) -> usize
     requires { ⌜ (n < 1000) × (p < 1000) × (14 ≤ length (now out)) ⌝ }
-    ensures { λ r. ⌜ Put (now (out .entry)) 0 (Spec.firstLine n p) (now (out .exit)) r ⌝ }
+    ensures { λ r. ⌜ Put (passed out) 0 (Spec.firstLine n p) (left out) r ⌝ }
 {
     let a = put(out, 0, b"PNL 1 ");
     let b = put_decimal(out, a, n);
@@ -124,8 +124,8 @@ fn put_first(out: &mut [u8], n: usize, p: usize) -> usize
 // Line one and 128 panel lines have at most 7,054.
 pub fn density_text(bytes: &[u8], out: &mut [u8]) -> usize
     requires { ⌜ 7054 ≤ length (now out) ⌝ }
-    ensures { λ r. ⌜ Put (now (out .entry)) 0 (Spec.text (now (bytes .entry))) (now (out .exit)) r ⌝ }
-    ensures { λ k. ⌜ Counts k (now (out .exit)) ⌝ }
+    ensures { λ r. ⌜ Put (passed out) 0 (Spec.text (passed bytes)) (left out) r ⌝ }
+    ensures { λ k. ⌜ Counts k (left out) ⌝ }
 {
     let refusal = panel_file::file_refusal(MAX_NODES, MAX_PANELS, 1, bytes);
     if refusal != 0 {

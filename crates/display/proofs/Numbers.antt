@@ -1,13 +1,15 @@
 -- The call's number by its condition: the test is false exactly in range, by cases on the number, and the laws of any list of checks do the rest.
-use mathlib.Core.Path.{_≡_, refl}
+use mathlib.Core.Path.{_≡_}
 use mathlib.Core.Logic.{_↔_}
 use mathlib.Core.Bool.{false, true≢false}
 use mathlib.Core.List.{[], _∷_}
 use Prim.Native.Nat.{_*_}
 use borrow.Author.Tests.{ltb-false, le-ltb}
 use lib.Ieee.{Float, nan, inf, fin, up, down}
-use Rattle.mesh.specs.Refusal.{check, displayRange, none-applies, applies-first}
-use Rattle.mesh.proofs.Refusals.{on}
+use Rattle.refusal.specs.Numbers.{displayRange}
+use Rattle.refusal.specs.Checks.{check}
+use Rattle.refusal.proofs.Checks.{none-applies, applies-first}
+use Rattle.refusal.proofs.Tests.{on}
 use Rattle.display.specs.Display.{largest, nanohenries, outOfRange, displayRefusal, InRange, DisplayNumbered}
 
 range-off : (x : Float) → (outOfRange x ≡ false) ↔ InRange x

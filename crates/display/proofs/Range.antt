@@ -20,7 +20,7 @@ use Rattle.binary64.specs.Pattern.{digitsAt, digitsOf, placeOf}
 use Rattle.binary64.proofs.Pattern.{opened, bits-value}
 use Rattle.ieee754.specs.Ieee754.{abs, signBit}
 use Rattle.ieee754.proofs.Signs.{sign-bit}
-use Rattle.mesh.specs.Refusal.{first}
+use Rattle.refusal.specs.Checks.{first}
 use Rattle.display.specs.Display.{roundHalfAway, nano, largest, nanohenries, outOfRange, displayRefusal, withSign, shown, Displayed}
 use Rattle.display.proofs.Rounding.{same-fraction}
 

@@ -7,7 +7,8 @@ use Prim.Native.Nat.{ℕ, suc, _+_, _*_, _/_, _%_, _^_, _≤_}
 use lib.Dec.{ltb, eqb}
 use lib.IntN.{ℤ, pos, negℤ}
 use lib.Ieee.{Float, nan, inf, fin, up, down}
-use Rattle.mesh.specs.Refusal.{check, first, displayRange}
+use Rattle.refusal.specs.Numbers.{displayRange}
+use Rattle.refusal.specs.Checks.{check, first}
 
 -- num / den to the nearest whole number, halves away from zero
 unfoldable pub roundHalfAway : ℕ → ℕ → ℕ

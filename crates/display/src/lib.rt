@@ -4,9 +4,6 @@ ghost use Prim.Native.Nat.{_*_, _^_, _≤_, _<_};
 ghost use Rattle.display.specs.Display as Spec;
 ghost use Rattle.display.specs.Display.{nano, largest, Displayed};
 
-// The number of document 01's table: not finite, or a size above the largest.
-pub const DISPLAY_RANGE: u32 = 16;
-
 const NANO: u64 = 1_000_000_000;
 
 const LARGEST: u64 = 1_000_000_000_000_000;
@@ -71,7 +68,7 @@ pub fn display(x: f64) -> Shown
 {
     if ieee754::is_nan(x) {
         return Shown {
-            refusal: DISPLAY_RANGE,
+            refusal: refusal::DISPLAY_RANGE,
             value: 0,
         };
     }
@@ -79,7 +76,7 @@ pub fn display(x: f64) -> Shown
     let p = binary64::place(b);
     if p > 1041 {
         return Shown {
-            refusal: DISPLAY_RANGE,
+            refusal: refusal::DISPLAY_RANGE,
             value: 0,
         };
     }
@@ -92,7 +89,7 @@ pub fn display(x: f64) -> Shown
     let size = nanohenries(binary64::digits(b), p);
     if LARGEST < size {
         return Shown {
-            refusal: DISPLAY_RANGE,
+            refusal: refusal::DISPLAY_RANGE,
             value: 0,
         };
     }

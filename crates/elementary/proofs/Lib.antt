@@ -5,3 +5,4 @@ pub mod Parts
 pub mod Finite
 pub mod Decomposed
 pub mod Bounded
+pub mod Examples

@@ -1,3 +1,2 @@
 -- The crate's definitions.
 pub mod Elementary
-pub mod Examples

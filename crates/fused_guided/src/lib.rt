@@ -6,7 +6,7 @@ ghost use Prim.Native.Nat.{_+_, _-_, _*_, _%_, _^_, _<_, _≤_};
 ghost use lib.Dec.{T, leb};
 ghost use lib.Ieee.{isNan};
 ghost use lib.Ieee.Nearest.{closest};
-ghost use Rattle.fused_integer.specs.Fma.{fma};
+ghost use Rattle.binary64.specs.Operations.{fma};
 ghost use Rattle.fused_integer.specs.Jam.{Jam};
 ghost use Rattle.fused_guided.specs.Guided as Guided;
 use fused_integer::Wide;

@@ -6,7 +6,7 @@ ghost use Prim.Native.Nat.{_+_, _-_, _*_, _/_, _%_, _^_, _<_, _≤_};
 ghost use lib.Dec.{T, leb};
 ghost use lib.Ieee.{binary64, toBits, sum, isNan, unlike};
 ghost use lib.Ieee.Nearest.{closest};
-ghost use Rattle.fused_integer.specs.Fma.{fma};
+ghost use Rattle.binary64.specs.Operations.{fma};
 ghost use Rattle.fused_integer.specs.Jam.{Jam};
 ghost use Rattle.fused_integer.specs.Rounds.{rounds};
 ghost use Rattle.fused_integer.specs.Parts.{mag, Normal, Placed, Narrow, Lifted, Finish, Ordered, Combined};

@@ -5,7 +5,7 @@ ghost use mathlib.Core.Bool.{false};
 ghost use mathlib.Core.Path.{_≡_};
 ghost use Prim.Native.Nat.{_≤_};
 ghost use lib.Ieee.{isNan};
-ghost use Rattle.fused_integer.specs.Fma.{fma};
+ghost use Rattle.binary64.specs.Operations.{fma};
 ghost use Rattle.fused_lanes.specs.Lanes as Spec;
 use ieee754::not_a_number;
 use ieee754::select;

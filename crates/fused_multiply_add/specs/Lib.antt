@@ -1,2 +1,1 @@
-pub mod Fma
 pub mod Residual

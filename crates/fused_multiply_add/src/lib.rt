@@ -3,7 +3,7 @@
 ghost use mathlib.Core.Path.{_≡_};
 ghost use mathlib.Core.Bool.{cond};
 ghost use Prim.Native.Nat.{_+_, _*_, _%_, _^_, _<_};
-ghost use Rattle.fused_integer.specs.Fma.{fma};
+ghost use Rattle.binary64.specs.Operations.{fma};
 ghost use Rattle.fused_integer.specs.Jam.{Jam};
 ghost use Rattle.fused_multiply_add.specs.Residual as Residual;
 use fused_guided::central;

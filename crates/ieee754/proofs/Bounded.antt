@@ -10,9 +10,8 @@ use lib.Pow.{pow-add, pow-pos, pow-mono}
 use lib.Ieee.{Float, binary64, low, unlike, up, down, sum}
 use lib.Ieee.Fits.{down-pos}
 use lib.Ieee.Nearest.{div-mono}
-use Rattle.square_root.specs.SquareRoot.{root, rootOf, squareRoot, sqrt}
+use Rattle.binary64.specs.Operations.{root, rootOf, squareRoot, sqrt, fma, fmaFin}
 use Rattle.square_root.proofs.Floor.{four-pow, root-floor}
-use Rattle.fused_multiply_add.specs.Fma.{fma, fmaFin}
 use Rattle.ieee754.specs.Ieee754.{abs, signed}
 use Rattle.binary64.proofs.Bounded.{Within, within, Below, below, either-sign, product-le, term-le, alike, sum-below, sum-within, round-within, neg-below}
 

@@ -1,10 +1,10 @@
 -- The Rust's `mul_add`, `sqrt`, `min`, `max`, `clamp`, `abs` and sign bit of an f64, which the toolchain's library lacks; `min`, `max` and `clamp` by document 01's words. Definitions only.
-use mathlib.Core.Bool.{Bool, true, false, cond}
+use mathlib.Core.Bool.{Bool, false, cond}
 use lib.Ieee.{Float, nan, inf, fin, neg, lt, isNan}
 -- IEEE 754 fusedMultiplyAdd: `fma a b c` is a * b + c, rounded once
-unfoldable pub use Rattle.fused_multiply_add.specs.Fma.{fma}
+unfoldable pub use Rattle.binary64.specs.Operations.{fma}
 -- IEEE 754 squareRoot
-unfoldable pub use Rattle.square_root.specs.SquareRoot.{sqrt}
+unfoldable pub use Rattle.binary64.specs.Operations.{sqrt}
 
 -- the other number if one is NaN, the first of two equal ones
 unfoldable pub min : Float → Float → Float

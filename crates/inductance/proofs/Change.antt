@@ -8,14 +8,14 @@ use native.Mathlib.Omega.{arith}
 use lib.Dec.{eqb}
 use lib.ListN.{length}
 use lib.Ieee.{Float}
-use Rattle.mesh.specs.Counting.{anyOf}
+use Rattle.lists.specs.Counting.{anyOf}
 use Rattle.mesh.specs.Mesh.{Mesh, node, nnode, ntri, triangleIndices, triangleNodes}
-use Rattle.mesh.proofs.Refusals.{or-off}
+use Rattle.refusal.proofs.Tests.{or-off}
 use Rattle.scatter.specs.Entries.{same, blockEntries, contributions, cellSum, square}
 use Rattle.scatter.specs.Renewal.{renewed}
 use Rattle.scatter.proofs.Misses.{contributions-append, source-misses, target-misses, both-miss}
 use Rattle.scatter.proofs.Renewals.{renewed-from}
-use Rattle.pair_nest.specs.Additions.{Block, pairEntries, targetEntries, sourceEntries, entries}
+use Rattle.pair_loops.specs.Additions.{Block, pairEntries, targetEntries, sourceEntries, entries}
 use Rattle.inductance.specs.Matrix.{cell, matrix}
 use Rattle.inductance.specs.Change.{Changed, Apart}
 

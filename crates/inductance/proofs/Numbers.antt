@@ -1,13 +1,14 @@
 -- The call's number by its conditions: 12 stands before the mesh's checks and 6 behind them, and the laws of a call that tests its mesh do the rest.
 use mathlib.Core.Path.{_≡_}
 use mathlib.Core.Bool.{not}
-use mathlib.Core.List.{[], _∷_, _++_}
+use mathlib.Core.List.{[]}
 use Prim.Native.Nat.{ℕ, _*_}
 use lib.Dec.{eqb}
 use Rattle.tri.specs.Quadrature.{quadratureRule, NoSuchRule}
-use Rattle.mesh.specs.Refusal.{applies-first, noSuchChoice, outputLength}
+use Rattle.refusal.specs.Numbers.{noSuchChoice, outputLength}
+use Rattle.refusal.proofs.Checks.{applies-first}
 use Rattle.mesh.specs.Mesh.{Mesh, nnode, maxNodes, maxPanels}
-use Rattle.mesh.proofs.Refusals.{on, differ-off}
+use Rattle.refusal.proofs.Tests.{on, differ-off}
 use Rattle.mesh.proofs.Calls.{call-before, call-behind, call-area, call-done, call-of-mesh, ruleChecks, rule-passed, rule-stopped}
 use Rattle.inductance.specs.Assembly.{sizeChecks, matrixRefusal, Numbered}
 

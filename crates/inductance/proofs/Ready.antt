@@ -8,14 +8,14 @@ use borrow.Author.Tests.{eqb-true, not-false}
 use lib.ListN.{length, replicate, length-replicate, getD-replicate}
 use lib.Ieee.{Float}
 use Rattle.tri.specs.declared.quadrature.QuadratureKind.{QuadratureKind}
-use Rattle.mesh.specs.Refusal.{after-done}
+use Rattle.refusal.proofs.Checks.{after-done}
 use Rattle.mesh.specs.Mesh.{Mesh, nnode, maxNodes, maxPanels}
 use Rattle.mesh.proofs.Refusals.{mesh-accepted}
 use Rattle.scatter.specs.Entries.{square}
 use Rattle.scatter.specs.Renewal.{marked, renewed}
 use Rattle.scatter.proofs.Renewals.{renewed-whole}
 use Rattle.coupling.specs.Block.{mutualInductanceBlock}
-use Rattle.pair_nest.specs.Ready.{Ready}
+use Rattle.pair_loops.specs.Ready.{Ready}
 use Rattle.inductance.specs.Matrix.{cell, matrix}
 use Rattle.inductance.specs.Assembly.{AssembledUnder, sizeChecks, sizedRefusal}
 

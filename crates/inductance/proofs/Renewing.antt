@@ -10,7 +10,7 @@ use Rattle.mesh.specs.Mesh.{Mesh}
 use Rattle.scatter.specs.Renewal.{renewing, renewed, Within}
 use Rattle.scatter.proofs.Cells.{length-renewed}
 use Rattle.scatter.proofs.Clearing.{renew-all}
-use Rattle.pair_nest.specs.Additions.{Block, entries}
+use Rattle.pair_loops.specs.Additions.{Block, entries}
 use Rattle.inductance.specs.Matrix.{cell}
 
 pub nest-done : (r : ℕ → Bool) (n : ℕ) (f : Block) (m : Mesh) (old start new : List Float)

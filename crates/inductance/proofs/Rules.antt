@@ -9,7 +9,9 @@ use Rattle.tri.specs.Quadrature.{quadratureRule}
 use Rattle.tri.specs.declared.quadrature.QuadratureKind.{QuadratureKind}
 use Rattle.tri.specs.declared.quadrature.Rule.{Rule}
 use Rattle.tri.specs.declared.quadrature.Rule.the-variants.{Known, Unknown}
-use Rattle.mesh.specs.Refusal.{first, after, after-refused, noSuchChoice}
+use Rattle.refusal.specs.Numbers.{noSuchChoice}
+use Rattle.refusal.specs.Checks.{first, after}
+use Rattle.refusal.proofs.Checks.{after-refused}
 use Rattle.mesh.specs.Mesh.{Mesh}
 use Rattle.inductance.specs.Matrix.{matrix}
 use Rattle.inductance.specs.Assembly.{blockUnder, matrixRefusal, sizedRefusal, Assembled, AssembledUnder}

@@ -6,7 +6,7 @@ use lib.Ieee.{Float}
 use Rattle.binary64.specs.Binary64.{at}
 use Rattle.mesh.specs.Mesh.{Mesh, meshOf, triangleNodes}
 use Rattle.scatter.specs.Entries.{rowEntries, blockEntries, oriented, withTransposed, contributions}
-use Rattle.pair_nest.specs.Additions.{Block, pairEntries, targetEntries, sourceEntries, entries}
+use Rattle.pair_loops.specs.Additions.{Block, pairEntries, targetEntries, sourceEntries, entries}
 
 module _ (f : Block) (x y z : List Float) where
   abbrev two : Mesh

@@ -9,7 +9,7 @@ use Rattle.mesh.specs.Conditions.{Below, NoneMissing}
 use Rattle.scatter.specs.Entries.{rowEntries, blockEntries}
 use Rattle.scatter.specs.Renewal.{Within, AllBelow}
 use Rattle.scatter.proofs.Cells.{within-append, within-both}
-use Rattle.pair_nest.specs.Additions.{Block, pairEntries, targetEntries, sourceEntries, entries}
+use Rattle.pair_loops.specs.Additions.{Block, pairEntries, targetEntries, sourceEntries, entries}
 
 row-within : (n x : ℕ) (t : List ℕ) (v : List Float) (k : ℕ) → x < n → AllBelow n t → Within n (rowEntries x t v k)
 unfolding rowEntries

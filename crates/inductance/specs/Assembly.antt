@@ -1,7 +1,7 @@
 -- inductance.rs, `triangle_mesh_inductance_matrix`, with document 01's numbers: the call's number, and what it leaves. Definitions only.
 use mathlib.Core.Path.{_≡_}
 use mathlib.Core.Logic.{_↔_}
-use mathlib.Core.Bool.{not}
+use mathlib.Core.Bool.{Bool, not}
 use mathlib.Core.List.{List, [], _∷_, _++_}
 use Prim.Native.Nat.{ℕ, _*_}
 use lib.Dec.{eqb}
@@ -11,17 +11,23 @@ use Rattle.tri.specs.Quadrature.{quadratureRule, NoSuchRule, isUnknown}
 use Rattle.tri.specs.declared.quadrature.QuadratureKind.{QuadratureKind}
 use Rattle.tri.specs.declared.quadrature.Rule.{Rule}
 use Rattle.tri.specs.declared.quadrature.Rule.the-variants.{Known, Unknown}
-use Rattle.mesh.specs.Refusal.{Check, check, first, after, noSuchChoice, outputLength, zeroArea}
+use Rattle.refusal.specs.Numbers.{noSuchChoice, outputLength, zeroArea}
+use Rattle.refusal.specs.Checks.{Check, check, first, after}
 use Rattle.mesh.specs.Mesh.{Mesh, nnode, meshChecks, maxNodes, maxPanels}
 use Rattle.mesh.specs.Conditions.{Refused4, Accepted, MeshNumbered}
 use Rattle.coupling.specs.Block.{mutualInductanceBlock}
-use Rattle.pair_nest.specs.Additions.{Block}
-use Rattle.inductance.specs.Matrix.{matrix}
+use Rattle.pair_loops.specs.Additions.{Block}
+use Rattle.scatter.specs.Renewal.{marked, renewed}
+use Rattle.inductance.specs.Matrix.{cell, matrix}
 
 -- the block under a rule; without a rule the call is refused and no block is asked for
 abbrev pub blockUnder : Rule → Block
 blockUnder (Known kind) = mutualInductanceBlock kind
 blockUnder Unknown = λ s t. []
+
+-- the matrix out with the cells of marked nodes' rows and columns fresh, under a rule that there is
+abbrev pub renewedUnder : QuadratureKind → List Bool → Mesh → List Float → List Float
+renewedUnder kind marks m out = renewed (marked marks) (cell (mutualInductanceBlock kind) m) (nnode m) out
 
 -- 6, after the mesh's checks: the output has not n × n numbers
 abbrev pub sizeChecks : ℕ → ℕ → List Check

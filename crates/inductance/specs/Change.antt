@@ -2,7 +2,7 @@
 use mathlib.Core.Path.{_≡_}
 use mathlib.Core.Bool.{Bool, true, false}
 use Prim.Native.Nat.{ℕ, _<_}
-use Rattle.mesh.specs.Counting.{anyOf}
+use Rattle.lists.specs.Counting.{anyOf}
 use Rattle.mesh.specs.Mesh.{Mesh, node, ntri, triangleIndices}
 use Rattle.scatter.specs.Entries.{same}
 

@@ -4,7 +4,7 @@ use Prim.Native.Nat.{ℕ}
 use lib.Ieee.{Float}
 use Rattle.mesh.specs.Mesh.{Mesh, nnode}
 use Rattle.scatter.specs.Entries.{contributions, cellSum, square}
-use Rattle.pair_nest.specs.Additions.{Block, entries}
+use Rattle.pair_loops.specs.Additions.{Block, entries}
 
 -- +0, and the values that go to the cell (a, b), added one after the other
 unfoldable pub cell : Block → Mesh → ℕ → ℕ → Float

@@ -1,13 +1,10 @@
 // inductance.rs: the nodal inductance matrix of a triangle mesh, and the cells of marked nodes worked out
 // anew. One nest of loops serves both.
 ghost use mathlib.Core.Path.{_≡_};
-ghost use lib.ListN.{length};
-ghost use Rattle.mesh.specs.Mesh.{meshOf};
-ghost use Rattle.coupling.specs.Block.{mutualInductanceBlock};
-ghost use Rattle.scatter.specs.Renewal.{renewed, marked};
-ghost use Rattle.pair_nest.specs.Ready.{Ready};
-ghost use Rattle.inductance.specs.Matrix.{cell};
-ghost use Rattle.inductance.specs.Assembly.{sizedRefusal, Assembled, AssembledUnder};
+ghost use Rattle.lists.specs.Lent.{passed, left};
+ghost use Rattle.mesh.specs.Mesh.{passedMesh, lentMesh};
+ghost use Rattle.pair_loops.specs.Ready.{Ready};
+ghost use Rattle.inductance.specs.Assembly.{renewedUnder, sizedRefusal, Assembled, AssembledUnder};
 use tri::quadrature::QuadratureKind;
 use tri::quadrature::Rule;
 
@@ -23,15 +20,15 @@ pub fn renew(
     marks: &[bool],
     out: &mut [f64],
 )
-    requires { ⌜ Ready (meshOf (now x) (now y) (now z) (now t0) (now t1) (now t2)) (now out) (now marks) ⌝ }
-    ensures { λ _. ⌜ now (out .exit) ≡ renewed (marked (now (marks .entry))) (cell (mutualInductanceBlock kind) (meshOf (now (x .entry)) (now (y .entry)) (now (z .entry)) (now (t0 .entry)) (now (t1 .entry)) (now (t2 .entry)))) (length (now (x .entry))) (now (out .entry)) ⌝ }
+    requires { ⌜ Ready (lentMesh x y z t0 t1 t2) (now out) (now marks) ⌝ }
+    ensures { λ _. ⌜ left out ≡ renewedUnder kind (passed marks) (passedMesh x y z t0 t1 t2) (passed out) ⌝ }
 {
     let mut flags = [false; mesh::MAX_PANELS];
     scatter::flag_panels(t0, t1, t2, marks, &mut flags);
     let mut links: [usize; mesh::MAX_PANELS] = [0; mesh::MAX_PANELS];
     scatter::link_marked(&flags, t0.len(), &mut links);
     scatter::clear_named(out, x.len(), marks);
-    pair_nest::add_all(kind, x, y, z, t0, t1, t2, marks, &flags, &links, out);
+    pair_loops::add_all(kind, x, y, z, t0, t1, t2, marks, &flags, &links, out);
 }
 
 // The number of a call that fills a matrix of the mesh's nodes, 0 if it is done.
@@ -44,14 +41,14 @@ fn sized_refusal(
     t2: &[usize],
     size: usize,
 ) -> u32
-    ensures { λ r. ⌜ r ≡ sizedRefusal (meshOf (now (x .entry)) (now (y .entry)) (now (z .entry)) (now (t0 .entry)) (now (t1 .entry)) (now (t2 .entry))) size ⌝ }
+    ensures { λ r. ⌜ r ≡ sizedRefusal (passedMesh x y z t0 t1 t2) size ⌝ }
 {
     let refusal = mesh::mesh_refusal(x, y, z, t0, t1, t2);
     if refusal != 0 {
         return refusal;
     }
     if size != x.len() * x.len() {
-        return mesh::OUTPUT_LENGTH;
+        return refusal::OUTPUT_LENGTH;
     }
     0
 }
@@ -67,7 +64,7 @@ fn matrix_under(
     t2: &[usize],
     out: &mut [f64],
 ) -> u32
-    ensures { λ r. ⌜ AssembledUnder kind (meshOf (now (x .entry)) (now (y .entry)) (now (z .entry)) (now (t0 .entry)) (now (t1 .entry)) (now (t2 .entry))) (now (out .entry)) r (now (out .exit)) ⌝ }
+    ensures { λ r. ⌜ AssembledUnder kind (passedMesh x y z t0 t1 t2) (passed out) r (left out) ⌝ }
 {
     let refusal = sized_refusal(x, y, z, t0, t1, t2, out.len());
     if refusal != 0 {
@@ -89,10 +86,10 @@ pub fn triangle_mesh_inductance_matrix(
     t2: &[usize],
     out: &mut [f64],
 ) -> u32
-    ensures { λ r. ⌜ Assembled rule (meshOf (now (x .entry)) (now (y .entry)) (now (z .entry)) (now (t0 .entry)) (now (t1 .entry)) (now (t2 .entry))) (now (out .entry)) r (now (out .exit)) ⌝ }
+    ensures { λ r. ⌜ Assembled rule (passedMesh x y z t0 t1 t2) (passed out) r (left out) ⌝ }
 {
     match tri::quadrature::quadrature_rule(rule) {
         Rule::Known(kind) => matrix_under(kind, x, y, z, t0, t1, t2, out),
-        Rule::Unknown => mesh::NO_SUCH_CHOICE,
+        Rule::Unknown => refusal::NO_SUCH_CHOICE,
     }
 }

@@ -1,57 +1,23 @@
-// What the C interface hands back: vectors, triangles and a panel's record as single numbers, written to a lent buffer of their
-// count; any other length is 6, and the buffer stays as it was.
+// What the C interface hands back in one array: a panel's record and the two halves of a triangle as single numbers.
 use panel_points::nine;
 use potential::UniformTriangle;
 ghost use mathlib.Core.Path.{_≡_};
 ghost use Prim.Native.Nat.{_+_, _≤_};
 ghost use lib.ListN.{length};
 ghost use lib.Seq.{paste};
-ghost use Rattle.lent_numbers.specs.Numbers.{halvesOf, recordNumbers, Wrote};
+ghost use Rattle.lists.specs.Lent.{passed, left};
+ghost use Rattle.lent_numbers.specs.Numbers.{halvesOf, recordNumbers};
 
 // Puts v into out from `from` on.
 fn put(v: &[f64], from: usize, out: &mut [f64])
     requires { ⌜ from + length (now v) ≤ length (now out) ⌝ }
-    ensures { λ _. ⌜ now (out .exit) ≡ paste (now (out .entry)) from (now (v .entry)) (length (now (v .entry))) ⌝ }
+    ensures { λ _. ⌜ left out ≡ paste (passed out) from (passed v) (length (passed v)) ⌝ }
 {
     let mut i = 0;
     while i < v.len() {
         out[from + i] = v[i];
         i += 1;
     }
-}
-
-pub fn write(v: &[f64], out: &mut [f64]) -> u32
-    ensures { λ r. ⌜ Wrote (length (now (v .entry))) (now (v .entry)) (now (out .entry)) r (now (out .exit)) ⌝ }
-{
-    if out.len() != v.len() {
-        return mesh::OUTPUT_LENGTH;
-    }
-    put(v, 0, out);
-    0
-}
-
-pub fn write3(v: [f64; 3], out: &mut [f64]) -> u32
-    ensures { λ r. ⌜ Wrote 3 v (now (out .entry)) r (now (out .exit)) ⌝ }
-{
-    write(&v, out)
-}
-
-pub fn write9(v: [f64; 9], out: &mut [f64]) -> u32
-    ensures { λ r. ⌜ Wrote 9 v (now (out .entry)) r (now (out .exit)) ⌝ }
-{
-    write(&v, out)
-}
-
-pub fn write18(v: [f64; 18], out: &mut [f64]) -> u32
-    ensures { λ r. ⌜ Wrote 18 v (now (out .entry)) r (now (out .exit)) ⌝ }
-{
-    write(&v, out)
-}
-
-pub fn write34(v: [f64; 34], out: &mut [f64]) -> u32
-    ensures { λ r. ⌜ Wrote 34 v (now (out .entry)) r (now (out .exit)) ⌝ }
-{
-    write(&v, out)
 }
 
 // The numbers of a panel's record in its fields' order.

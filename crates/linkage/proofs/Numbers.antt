@@ -8,9 +8,11 @@ use native.Mathlib.Nat.{mul-zero, mul-div-cancel, mul-mod-left, pos-of-ne-zero, 
 use native.Mathlib.Omega.{arith}
 use borrow.Author.Tests.{eqb-true, eqb-false, eq-eqb, ne-eqb, ltb-true, ltb-false, lt-ltb, le-ltb, leb-true, leb-false, le-leb, lt-leb}
 use lib.Dec.{eqb, ltb, leb}
-use Rattle.mesh.specs.Refusal.{check, Clear, none-applies, applies-first, nodalValues, matrixLength, tooLarge, noSuchNode, coefficients, mapLength, fluxLength}
+use Rattle.refusal.specs.Numbers.{nodalValues, matrixLength, tooLarge, noSuchNode, coefficients, mapLength, fluxLength}
+use Rattle.refusal.specs.Checks.{check, Clear}
+use Rattle.refusal.proofs.Checks.{none-applies, applies-first}
 use Rattle.mesh.specs.Mesh.{maxNodes}
-use Rattle.mesh.proofs.Refusals.{on, or-off, differ-off}
+use Rattle.refusal.proofs.Tests.{on, or-off, differ-off}
 use Rattle.linkage.specs.Energy.{energyRefusal, vectorsRefusal}
 use Rattle.linkage.specs.Flux.{lacksSources, brokenRows, rowsDiffer, mapChecks, mapRefusal}
 use Rattle.linkage.specs.Row.{matrixRowRefusal, rowCount, mapRowRefusal}

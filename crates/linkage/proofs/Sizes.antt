@@ -10,8 +10,10 @@ use lib.Dec.{eqb}
 use lib.ListN.{length, drop, length-drop}
 use lib.Seq.{length-take-le}
 use lib.Ieee.{Float}
-use Rattle.mesh.specs.Refusal.{check, first, Clear, none-applies, first-passed, first-stopped, nodalValues}
-use Rattle.mesh.proofs.Refusals.{or-off, differ-off}
+use Rattle.refusal.specs.Numbers.{nodalValues}
+use Rattle.refusal.specs.Checks.{check, first, Clear}
+use Rattle.refusal.proofs.Checks.{none-applies, first-passed, first-stopped}
+use Rattle.refusal.proofs.Tests.{or-off, differ-off}
 use Rattle.linkage.specs.Stretch.{stretch}
 use Rattle.linkage.specs.Energy.{matrixChecks, energyRefusal, vectorsRefusal}
 use Rattle.linkage.specs.Flux.{lacksSources, brokenRows, rowsDiffer, mapChecks, mapRefusal}

@@ -1,4 +1,4 @@
--- Each running sum with one term more, and the value of an answer that is done or refused.
+-- The sum over rows with one row more, and the value of an answer that is done or refused.
 use mathlib.Core.Path.{_≡_, refl, ap, _∙_}
 use mathlib.Core.Bool.{Bool, true, false, cond}
 use mathlib.Core.List.{List}
@@ -8,27 +8,14 @@ use borrow.Author.Tests.{ne-eqb}
 use lib.ListN.{length}
 use lib.Dec.{eqb}
 use lib.Ieee.{Float, mul, ofBits}
-use Rattle.binary64.specs.Binary64.{_⊕_, _⊗_, at, plusZero, half}
+use Rattle.binary64.specs.Binary64.{_⊗_, plusZero, half}
 use Rattle.linkage.specs.Answer.{valueAfter}
 use Rattle.linkage.specs.Stretch.{stretch}
 use Rattle.linkage.specs.Energy.{rowAdded, rowsAdded}
-use Rattle.linkage.specs.Flux.{fluxTo, rowFlux, interactionTo}
-
-pub row-more : (row s t : List Float) (i : ℕ) (x : Float) (k : ℕ) → rowAdded row s t i x (k + 1) ≡ rowAdded row s t i x k ⊕ at s i ⊗ at row k ⊗ at t k
-unfolding rowAdded
-row-more row s t i x k = rw add-one
 
 pub rows-more : (l s t : List Float) (i : ℕ) → rowsAdded l s t (i + 1) ≡ rowAdded (stretch l (length s) i) s t i (rowsAdded l s t i) (length s)
 unfolding rowsAdded
 rows-more l s t i = rw add-one
-
-pub flux-more : (row cs : List Float) (k : ℕ) → fluxTo row cs (k + 1) ≡ fluxTo row cs k ⊕ at row k ⊗ at cs k
-unfolding fluxTo
-flux-more row cs k = rw add-one
-
-pub interaction-more : (map s cs : List Float) (n : ℕ) → interactionTo map s cs (n + 1) ≡ interactionTo map s cs n ⊕ at s n ⊗ rowFlux map cs n
-unfolding interactionTo
-interaction-more map s cs n = rw add-one
 
 pub value-refused : (r : ℕ) (due : Float) → (r ≡ 0 → ⊥) → plusZero ≡ valueAfter r due
 unfolding valueAfter

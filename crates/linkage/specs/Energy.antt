@@ -5,15 +5,17 @@ use Prim.Native.Nat.{ℕ, zero, suc, _*_}
 use lib.Dec.{eqb, ltb}
 use lib.ListN.{length}
 use lib.Ieee.{Float}
-use Rattle.binary64.specs.Binary64.{_⊕_, _⊗_, at, plusZero, half}
-use Rattle.mesh.specs.Refusal.{Check, check, first, nodalValues, matrixLength, tooLarge}
+use Rattle.binary64.specs.Binary64.{_⊗_, at, plusZero, half}
+use Rattle.refusal.specs.Numbers.{nodalValues, matrixLength, tooLarge}
+use Rattle.refusal.specs.Checks.{Check, check, first}
 use Rattle.mesh.specs.Mesh.{maxNodes}
+use Rattle.lists.specs.Sums.{runningSum}
+use Rattle.linkage.specs.Answer.{Answered}
 use Rattle.linkage.specs.Stretch.{stretch}
 
 -- x, and the first k products of row i added to it: (s_i · L_ij) · t_j
-unfoldable pub rowAdded : List Float → List Float → List Float → ℕ → Float → ℕ → Float
-rowAdded row s t i x zero = x
-rowAdded row s t i x (suc k) = rowAdded row s t i x k ⊕ at s i ⊗ at row k ⊗ at t k
+abbrev pub rowAdded : List Float → List Float → List Float → ℕ → Float → ℕ → Float
+rowAdded row s t i x k = runningSum x (λ j. at s i ⊗ at row j ⊗ at t j) k
 
 -- the first i rows
 unfoldable pub rowsAdded : List Float → List Float → List Float → ℕ → Float
@@ -36,3 +38,10 @@ energyRefusal n size = first (matrixChecks n size)
 -- 5, 11, 7
 unfoldable pub vectorsRefusal : ℕ → ℕ → ℕ → ℕ
 vectorsRefusal n nt size = first (check nodalValues (not (eqb nt n)) ∷ matrixChecks n size)
+
+-- what the two calls answer
+abbrev pub VectorsAnswered : List Float → List Float → List Float → ℕ → Float → Type 0
+VectorsAnswered l s t r v = Answered (vectorsRefusal (length s) (length t) (length l)) (fromPotentialVectors l s t) r v
+
+abbrev pub EnergyAnswered : List Float → List Float → ℕ → Float → Type 0
+EnergyAnswered l s r v = Answered (energyRefusal (length s) (length l)) (inductiveEnergy l s) r v

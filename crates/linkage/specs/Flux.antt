@@ -2,19 +2,21 @@
 use mathlib.Core.Path.{_≡_}
 use mathlib.Core.Bool.{Bool, not, _&&_, _||_}
 use mathlib.Core.List.{List, [], _∷_}
-use Prim.Native.Nat.{ℕ, zero, suc, _/_, _%_}
+use Prim.Native.Nat.{ℕ, _/_, _%_}
 use lib.Dec.{eqb}
 use lib.ListN.{length}
 use lib.Ieee.{Float}
-use Rattle.binary64.specs.Binary64.{_⊕_, _⊗_, at, plusZero}
-use Rattle.mesh.specs.Refusal.{Check, check, first, after, coefficients, mapLength, fluxLength}
-use Rattle.mesh.specs.Filling.{tabulate}
+use Rattle.binary64.specs.Binary64.{_⊗_, at}
+use Rattle.refusal.specs.Numbers.{coefficients, mapLength, fluxLength}
+use Rattle.refusal.specs.Checks.{Check, check, first, after}
+use Rattle.lists.specs.Filling.{tabulate}
+use Rattle.lists.specs.Sums.{sumTo}
+use Rattle.linkage.specs.Answer.{Answered}
 use Rattle.linkage.specs.Stretch.{stretch}
 
 -- the first k products of a row and the coefficients, added from +0 on
-unfoldable pub fluxTo : List Float → List Float → ℕ → Float
-fluxTo row cs zero = plusZero
-fluxTo row cs (suc k) = fluxTo row cs k ⊕ at row k ⊗ at cs k
+abbrev pub fluxTo : List Float → List Float → ℕ → Float
+fluxTo row cs k = sumTo (λ j. at row j ⊗ at cs j) k
 
 -- the flux of one row
 abbrev pub fluxOfRow : List Float → List Float → Float
@@ -29,9 +31,8 @@ abbrev pub fluxLinkage : List Float → List Float → ℕ → List Float
 fluxLinkage map cs n = tabulate n (rowFlux map cs)
 
 -- s_i times the flux of row i, for the first n rows, added from +0 on
-unfoldable pub interactionTo : List Float → List Float → List Float → ℕ → Float
-interactionTo map s cs zero = plusZero
-interactionTo map s cs (suc n) = interactionTo map s cs n ⊕ at s n ⊗ rowFlux map cs n
+abbrev pub interactionTo : List Float → List Float → List Float → ℕ → Float
+interactionTo map s cs n = sumTo (λ i. at s i ⊗ rowFlux map cs i) n
 
 abbrev pub interactionEnergy : List Float → List Float → List Float → Float
 interactionEnergy map s cs = interactionTo map s cs (length s)
@@ -60,3 +61,7 @@ mapRefusal size sources nodes = first (mapChecks size sources nodes)
 pub record Linked (map cs out : List Float) (r : ℕ) (out' : List Float) : Type 0 where
   pub refusal : r ≡ mapRefusal (length map) (length cs) (length out)
   pub flux : out' ≡ after r (fluxLinkage map cs (length out)) out
+
+-- what the interaction energy's call answers
+abbrev pub InteractionAnswered : List Float → List Float → List Float → ℕ → Float → Type 0
+InteractionAnswered map s coefficients r v = Answered (mapRefusal (length map) (length coefficients) (length s)) (interactionEnergy map s coefficients) r v

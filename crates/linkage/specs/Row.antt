@@ -5,7 +5,8 @@ use Prim.Native.Nat.{ℕ, _/_}
 use lib.Dec.{eqb, leb}
 use lib.ListN.{length}
 use lib.Ieee.{Float}
-use Rattle.mesh.specs.Refusal.{Check, check, first, coefficients, mapLength, noSuchNode}
+use Rattle.refusal.specs.Numbers.{coefficients, mapLength, noSuchNode}
+use Rattle.refusal.specs.Checks.{Check, check, first}
 use Rattle.linkage.specs.Stretch.{stretch}
 use Rattle.linkage.specs.Energy.{matrixChecks}
 use Rattle.linkage.specs.Flux.{lacksSources, brokenRows}

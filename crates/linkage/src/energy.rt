@@ -2,19 +2,19 @@
 ghost use mathlib.Core.Path.{_≡_};
 ghost use Prim.Native.Nat.{_<_, _*_};
 ghost use lib.ListN.{length};
-ghost use Rattle.linkage.specs.Answer.{Answered};
+ghost use Rattle.lists.specs.Lent.{passed};
 ghost use Rattle.linkage.specs.Energy as Spec;
-use crate::Answer;
+use refusal::Answer;
 
 // 11 and 7: n nodal values against a matrix of so many numbers.
 pub fn energy_refusal(n: usize, size: usize) -> u32
     ensures { λ r. ⌜ r ≡ Spec.energyRefusal n size ⌝ }
 {
     if mesh::MAX_NODES < n {
-        return mesh::TOO_LARGE;
+        return refusal::TOO_LARGE;
     }
     if size != n * n {
-        return mesh::MATRIX_LENGTH;
+        return refusal::MATRIX_LENGTH;
     }
     0
 }
@@ -24,7 +24,7 @@ fn vectors_refusal(n: usize, targets: usize, size: usize) -> u32
     ensures { λ r. ⌜ r ≡ Spec.vectorsRefusal n targets size ⌝ }
 {
     if targets != n {
-        return mesh::NODAL_VALUES;
+        return refusal::NODAL_VALUES;
     }
     energy_refusal(n, size)
 }
@@ -32,7 +32,7 @@ fn vectors_refusal(n: usize, targets: usize, size: usize) -> u32
 // The products of row i, added to x one after the other.
 fn add_row(row: &[f64], s: &[f64], t: &[f64], i: usize, x: f64) -> f64
     requires { ⌜ (length (now t) ≡ length (now s)) × (i < length (now s)) × (length (now row) ≡ length (now s)) ⌝ }
-    ensures { λ r. ⌜ r ≡ Spec.rowAdded (now (row .entry)) (now (s .entry)) (now (t .entry)) i x (length (now (s .entry))) ⌝ }
+    ensures { λ r. ⌜ r ≡ Spec.rowAdded (passed row) (passed s) (passed t) i x (length (passed s)) ⌝ }
 {
     let n = s.len();
     let mut out = x;
@@ -45,7 +45,7 @@ fn add_row(row: &[f64], s: &[f64], t: &[f64], i: usize, x: f64) -> f64
 // All rows, one after the other from +0 on.
 fn add_rows(matrix: &[f64], s: &[f64], t: &[f64]) -> f64
     requires { ⌜ (length (now t) ≡ length (now s)) × (length (now matrix) ≡ length (now s) * length (now s)) ⌝ }
-    ensures { λ r. ⌜ r ≡ Spec.fromPotentialVectors (now (matrix .entry)) (now (s .entry)) (now (t .entry)) ⌝ }
+    ensures { λ r. ⌜ r ≡ Spec.fromPotentialVectors (passed matrix) (passed s) (passed t) ⌝ }
 {
     let n = s.len();
     let mut out = 0.0;
@@ -62,7 +62,7 @@ pub fn triangle_mesh_inductance_from_potential_vectors(
     s: &[f64],
     t: &[f64],
 ) -> Answer
-    ensures { λ r. ⌜ Answered (Spec.vectorsRefusal (length (now (s .entry))) (length (now (t .entry))) (length (now (matrix .entry)))) (Spec.fromPotentialVectors (now (matrix .entry)) (now (s .entry)) (now (t .entry))) (r .refusal) (r .value) ⌝ }
+    ensures { λ r. ⌜ Spec.VectorsAnswered (passed matrix) (passed s) (passed t) (r .refusal) (r .value) ⌝ }
 {
     let refusal = vectors_refusal(s.len(), t.len(), matrix.len());
     if refusal != 0 {
@@ -79,7 +79,7 @@ pub fn triangle_mesh_inductance_from_potential_vectors(
 
 // Half of the matrix between s and itself.
 pub fn triangle_mesh_inductive_energy(matrix: &[f64], s: &[f64]) -> Answer
-    ensures { λ r. ⌜ Answered (Spec.energyRefusal (length (now (s .entry))) (length (now (matrix .entry)))) (Spec.inductiveEnergy (now (matrix .entry)) (now (s .entry))) (r .refusal) (r .value) ⌝ }
+    ensures { λ r. ⌜ Spec.EnergyAnswered (passed matrix) (passed s) (r .refusal) (r .value) ⌝ }
 {
     let both = triangle_mesh_inductance_from_potential_vectors(matrix, s, s);
     Answer {

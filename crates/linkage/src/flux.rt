@@ -2,10 +2,10 @@
 ghost use mathlib.Core.Path.{_≡_};
 ghost use Prim.Native.Nat.{_<_, _≤_, _+_, _*_};
 ghost use lib.ListN.{length};
-ghost use Rattle.linkage.specs.Answer.{Answered};
+ghost use Rattle.lists.specs.Lent.{passed, left};
 ghost use Rattle.linkage.specs.Flux as Spec;
 ghost use Rattle.linkage.specs.Flux.{Linked};
-use crate::Answer;
+use refusal::Answer;
 
 // 8
 pub fn lacks_sources(size: usize, sources: usize, nodes: usize) -> bool
@@ -39,13 +39,13 @@ fn map_refusal(size: usize, sources: usize, nodes: usize) -> u32
     ensures { λ r. ⌜ r ≡ Spec.mapRefusal size sources nodes ⌝ }
 {
     if lacks_sources(size, sources, nodes) {
-        return mesh::COEFFICIENTS;
+        return refusal::COEFFICIENTS;
     }
     if broken_rows(size, sources) {
-        return mesh::MAP_LENGTH;
+        return refusal::MAP_LENGTH;
     }
     if rows_differ(size, sources, nodes) {
-        return mesh::FLUX_LENGTH;
+        return refusal::FLUX_LENGTH;
     }
     0
 }
@@ -53,7 +53,7 @@ fn map_refusal(size: usize, sources: usize, nodes: usize) -> u32
 // The flux of one row: its products with the coefficients, added one after the other from +0 on.
 pub fn flux_of_row(row: &[f64], coefficients: &[f64]) -> f64
     requires { ⌜ length (now row) ≡ length (now coefficients) ⌝ }
-    ensures { λ r. ⌜ r ≡ Spec.fluxOfRow (now (row .entry)) (now (coefficients .entry)) ⌝ }
+    ensures { λ r. ⌜ r ≡ Spec.fluxOfRow (passed row) (passed coefficients) ⌝ }
 {
     let n = coefficients.len();
     let mut psi = 0.0;
@@ -66,7 +66,7 @@ pub fn flux_of_row(row: &[f64], coefficients: &[f64]) -> f64
 // The flux of row i of a map.
 fn row_flux(map: &[f64], coefficients: &[f64], i: usize) -> f64
     requires { ⌜ i * length (now coefficients) + length (now coefficients) ≤ length (now map) ⌝ }
-    ensures { λ r. ⌜ r ≡ Spec.rowFlux (now (map .entry)) (now (coefficients .entry)) i ⌝ }
+    ensures { λ r. ⌜ r ≡ Spec.rowFlux (passed map) (passed coefficients) i ⌝ }
 {
     let row = crate::row::stretch(map, coefficients.len(), i);
     flux_of_row(row, coefficients)
@@ -75,7 +75,7 @@ fn row_flux(map: &[f64], coefficients: &[f64], i: usize) -> f64
 // The flux of every row.
 fn fill_flux(map: &[f64], coefficients: &[f64], out: &mut [f64])
     requires { ⌜ length (now map) ≡ length (now out) * length (now coefficients) ⌝ }
-    ensures { λ _. ⌜ now (out .exit) ≡ Spec.fluxLinkage (now (map .entry)) (now (coefficients .entry)) (length (now (out .entry))) ⌝ }
+    ensures { λ _. ⌜ left out ≡ Spec.fluxLinkage (passed map) (passed coefficients) (length (passed out)) ⌝ }
 {
     let mut i = 0;
     while i < out.len() {
@@ -90,7 +90,7 @@ pub fn triangle_mesh_flux_linkage_from_source_coefficients(
     coefficients: &[f64],
     out: &mut [f64],
 ) -> u32
-    ensures { λ r. ⌜ Linked (now (map .entry)) (now (coefficients .entry)) (now (out .entry)) r (now (out .exit)) ⌝ }
+    ensures { λ r. ⌜ Linked (passed map) (passed coefficients) (passed out) r (left out) ⌝ }
 {
     let refusal = map_refusal(map.len(), coefficients.len(), out.len());
     if refusal != 0 {
@@ -103,7 +103,7 @@ pub fn triangle_mesh_flux_linkage_from_source_coefficients(
 // Nodal values times flux, over all rows.
 fn add_interaction(map: &[f64], values: &[f64], coefficients: &[f64]) -> f64
     requires { ⌜ length (now map) ≡ length (now values) * length (now coefficients) ⌝ }
-    ensures { λ r. ⌜ r ≡ Spec.interactionEnergy (now (map .entry)) (now (values .entry)) (now (coefficients .entry)) ⌝ }
+    ensures { λ r. ⌜ r ≡ Spec.interactionEnergy (passed map) (passed values) (passed coefficients) ⌝ }
 {
     let n = values.len();
     let mut out = 0.0;
@@ -119,7 +119,7 @@ pub fn triangle_mesh_interaction_energy_from_source_coefficients(
     values: &[f64],
     coefficients: &[f64],
 ) -> Answer
-    ensures { λ r. ⌜ Answered (Spec.mapRefusal (length (now (map .entry))) (length (now (coefficients .entry))) (length (now (values .entry)))) (Spec.interactionEnergy (now (map .entry)) (now (values .entry)) (now (coefficients .entry))) (r .refusal) (r .value) ⌝ }
+    ensures { λ r. ⌜ Spec.InteractionAnswered (passed map) (passed values) (passed coefficients) (r .refusal) (r .value) ⌝ }
 {
     let refusal = map_refusal(map.len(), coefficients.len(), values.len());
     if refusal != 0 {

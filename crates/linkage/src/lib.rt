@@ -3,9 +3,3 @@
 pub mod energy;
 pub mod flux;
 pub mod row;
-
-// A number of document 01's table, and a value, which is zero on a refusal.
-pub struct Answer {
-    pub refusal: u32,
-    pub value: f64,
-}

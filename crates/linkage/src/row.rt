@@ -2,13 +2,14 @@
 ghost use mathlib.Core.Path.{_≡_};
 ghost use Prim.Native.Nat.{_+_, _*_, _≤_};
 ghost use lib.ListN.{length};
+ghost use Rattle.lists.specs.Lent.{passed};
 ghost use Rattle.linkage.specs.Row as Spec;
 ghost use Rattle.linkage.specs.Stretch as Stretch;
 
 // w numbers from i · w on.
 pub fn stretch(m: &[f64], w: usize, i: usize) -> &[f64]
     requires { ⌜ i * w + w ≤ length (now m) ⌝ }
-    ensures { λ r. ⌜ now r ≡ Stretch.stretch (now (m .entry)) w i ⌝ }
+    ensures { λ r. ⌜ now r ≡ Stretch.stretch (passed m) w i ⌝ }
 {
     let start = i * w;
     let end = start + w;
@@ -17,21 +18,21 @@ pub fn stretch(m: &[f64], w: usize, i: usize) -> &[f64]
 
 // The number of the row of a node in a matrix for n nodes.
 pub fn triangle_mesh_matrix_row_refusal(matrix: &[f64], n: usize, node: usize) -> u32
-    ensures { λ r. ⌜ r ≡ Spec.matrixRowRefusal (length (now (matrix .entry))) n node ⌝ }
+    ensures { λ r. ⌜ r ≡ Spec.matrixRowRefusal (length (passed matrix)) n node ⌝ }
 {
     let refusal = crate::energy::energy_refusal(n, matrix.len());
     if refusal != 0 {
         return refusal;
     }
     if n <= node {
-        return mesh::NO_SUCH_NODE;
+        return refusal::NO_SUCH_NODE;
     }
     0
 }
 
 // The row of a node in a matrix for n nodes.
 pub fn triangle_mesh_matrix_row(matrix: &[f64], n: usize, node: usize) -> &[f64]
-    ensures { λ r. ⌜ now r ≡ Spec.matrixRow (now (matrix .entry)) n node ⌝ }
+    ensures { λ r. ⌜ now r ≡ Spec.matrixRow (passed matrix) n node ⌝ }
 {
     if triangle_mesh_matrix_row_refusal(matrix, n, node) != 0 {
         return &matrix[0..0];
@@ -51,23 +52,23 @@ fn row_count(size: usize, sources: usize) -> usize
 
 // The number of the row of a node in a map for so many sources.
 pub fn triangle_mesh_map_row_refusal(map: &[f64], sources: usize, node: usize) -> u32
-    ensures { λ r. ⌜ r ≡ Spec.mapRowRefusal (length (now (map .entry))) sources node ⌝ }
+    ensures { λ r. ⌜ r ≡ Spec.mapRowRefusal (length (passed map)) sources node ⌝ }
 {
     if crate::flux::lacks_sources(map.len(), sources, 0) {
-        return mesh::COEFFICIENTS;
+        return refusal::COEFFICIENTS;
     }
     if crate::flux::broken_rows(map.len(), sources) {
-        return mesh::MAP_LENGTH;
+        return refusal::MAP_LENGTH;
     }
     if row_count(map.len(), sources) <= node {
-        return mesh::NO_SUCH_NODE;
+        return refusal::NO_SUCH_NODE;
     }
     0
 }
 
 // The row of a node in a map for so many sources.
 pub fn triangle_mesh_map_row(map: &[f64], sources: usize, node: usize) -> &[f64]
-    ensures { λ r. ⌜ now r ≡ Spec.mapRow (now (map .entry)) sources node ⌝ }
+    ensures { λ r. ⌜ now r ≡ Spec.mapRow (passed map) sources node ⌝ }
 {
     if triangle_mesh_map_row_refusal(map, sources, node) != 0 {
         return &map[0..0];

@@ -1,54 +1,20 @@
 -- The number of a call that tests its mesh between checks of its own: `in-parts`, the law of checks in two parts, cuts the list before and behind the mesh's, and a part that lacks a number
 -- does not give it. The mesh's own conditions are those of `numbered`.
-use mathlib.Core.Path.{_≡_, subst}
+use mathlib.Core.Path.{_≡_}
 use mathlib.Core.Logic.{_↔_, _⊎_, inl, inr}
-use mathlib.Core.Bool.{Bool, true, false, not, _&&_}
+use mathlib.Core.Bool.{Bool, true, not, _&&_}
 use mathlib.Core.List.{List, [], _∷_, _++_}
 use Prim.Native.Nat.{ℕ}
-use lib.Dec.{T, eqb, eqb-refl, T-not}
+use lib.Dec.{T, eqb}
 use lib.Ieee.Fits.{and-l, and-r}
 use Rattle.tri.specs.Quadrature.{quadratureRule, NoSuchRule, isUnknown}
 use Rattle.tri.proofs.Rules.{rule-off, rule-on}
-use Rattle.mesh.specs.Refusal.{Check, check, first, Clear, lacks, lacking, none-applies, applies-first, in-parts, noSuchChoice}
+use Rattle.refusal.specs.Numbers.{noSuchChoice}
+use Rattle.refusal.specs.Checks.{Check, check, first, Clear, lacks}
+use Rattle.refusal.proofs.Checks.{none-applies, applies-first, in-parts, clear-parts, lacks-parts, of-front, of-back}
 use Rattle.mesh.specs.Mesh.{Mesh, meshChecks, meshRefusal}
 use Rattle.mesh.specs.Conditions.{Refused4, Accepted, MeshNumbered}
 use Rattle.mesh.proofs.Refusals.{numbered}
-
--- ---- checks in two parts
-clear-parts : (cs ds : List Check) → Clear (cs ++ ds) ↔ (Clear cs × Clear ds)
-clear-parts [] ds = (λ h. (tt, h), λ h. h .1)
-clear-parts (c ∷ cs) ds =
-    let w = clear-parts cs ds in
-    (λ h. let v = w .0 (h .1) in ((h .0, v .0), v .1), λ h. (h .0 .0, w .1 (h .0 .1, h .1)))
-
-lacks-parts : (k : ℕ) (cs ds : List Check) → T (lacks k cs) → T (lacks k ds) → T (lacks k (cs ++ ds))
-lacks-parts k [] ds l o = o
-lacks-parts k (c ∷ cs) ds l o =
-    let own = not (eqb (c .number) k) in
-    both own (lacks k (cs ++ ds)) (and-l own (lacks k cs) l) (lacks-parts k cs ds (and-r own (lacks k cs) l) o)
-  where
-    both : (s t : Bool) → T s → T t → T (s && t)
-    both true t p q = q
-    both false t p q = absurd p
-
-never : (cs : List Check) (k : ℕ) → T (not (eqb k 0)) → T (lacks k cs) → first cs ≡ k → ⊥
-never cs k z n e = T-not (eqb k 0) z (subst (λ (x : ℕ). T (eqb k x)) (lacking k cs n e) (eqb-refl k))
-
--- a number that the second part lacks is the first part's
-of-front : (cs ds : List Check) (k : ℕ) → T (not (eqb k 0)) → T (lacks k ds) → (first (cs ++ ds) ≡ k) ↔ (first cs ≡ k)
-of-front cs ds k z n = (λ e. go (in-parts cs ds k z .0 e), λ e. in-parts cs ds k z .1 (inl e))
-  where
-    go : (first cs ≡ k) ⊎ (Clear cs × (first ds ≡ k)) → first cs ≡ k
-    go (inl e) = e
-    go (inr h) = absurd (never ds k z n (h .1))
-
--- a number that the first part lacks is the second part's
-of-back : (cs ds : List Check) (k : ℕ) → T (not (eqb k 0)) → T (lacks k cs) → (first (cs ++ ds) ≡ k) ↔ (Clear cs × (first ds ≡ k))
-of-back cs ds k z n = (λ e. go (in-parts cs ds k z .0 e), λ h. in-parts cs ds k z .1 (inr h))
-  where
-    go : (first cs ≡ k) ⊎ (Clear cs × (first ds ≡ k)) → Clear cs × (first ds ≡ k)
-    go (inl e) = absurd (never cs k z n e)
-    go (inr h) = h
 
 -- ---- the mesh's own checks
 -- k is none of the mesh's numbers

@@ -1,40 +1,20 @@
 -- The number of a mesh: each test is turned into its condition and back (`…-off`, `…-on`), and `applies-first`, the law of any list of checks, puts them in order.
-use mathlib.Core.Path.{_≡_, refl, sym, _∙_}
+use mathlib.Core.Path.{_≡_, sym, _∙_}
 use mathlib.Core.Logic.{_↔_, _⊎_, inl, inr}
-use mathlib.Core.Bool.{Bool, true, false, not, _||_, true≢false}
+use mathlib.Core.Bool.{true, false, _||_, true≢false}
 use mathlib.Core.List.{List, [], _∷_, _++_}
-use Prim.Native.Nat.{ℕ, _<_, _≤_}
+use Prim.Native.Nat.{ℕ}
 use native.Mathlib.Omega.{arith}
-use borrow.Author.Tests.{leb-true, leb-false, le-leb, lt-leb, ltb-true, ltb-false, lt-ltb, le-ltb, eqb-true, eqb-false, eq-eqb, not-true, not-false}
-use lib.Dec.{T, leb, ltb, eqb}
+use borrow.Author.Tests.{leb-true, leb-false, lt-leb, ltb-false, le-ltb, eq-eqb}
+use lib.Dec.{T, leb}
 use lib.ListN.{length, getD}
-use lib.Ieee.{lt}
-use Rattle.tri.specs.Mapping.{area}
-use Rattle.mesh.specs.Refusal.{Check, check, first, Clear, lacks, none-applies, applies-first, first-stopped, first-passed}
-use Rattle.mesh.specs.Counting.{anyOf, someBelow, some-where, some-at, none-at, none-below}
-use Rattle.mesh.specs.Mesh.{Mesh, nnode, ntri, triangleIndices, triangleNodes, lengthsDiffer, passesLimits, missesNode, isZeroArea, smallestArea, meshChecks, meshRefusal}
+use Rattle.refusal.proofs.Tests.{on, or-off, or-on, differ-off}
+use Rattle.refusal.specs.Checks.{Check, check, first, Clear, lacks}
+use Rattle.refusal.proofs.Checks.{none-applies, applies-first, first-stopped, first-passed}
+use Rattle.lists.specs.Counting.{anyOf, someBelow}
+use Rattle.lists.proofs.Counting.{some-where, some-at, none-at, none-below}
+use Rattle.mesh.specs.Mesh.{Mesh, nnode, ntri, triangleIndices, triangleNodes, lengthsDiffer, passesLimits, missesNode, isZeroArea, meshChecks, meshRefusal}
 use Rattle.mesh.specs.Conditions.{NodeColumnsAlike, PanelColumnsAlike, WithinLimits, Below, Beyond, MissingNode, NoneMissing, ZeroArea, NoZeroArea, Accepted, Numbered}
-
--- ---- a test that is false exactly under a condition is true exactly without it
-module _ (t : Bool) (P : Type 0) (off : (t ≡ false) ↔ P) where
-  pub on : (t ≡ true) ↔ (P → ⊥)
-  on = (λ e p. true≢false (sym e ∙ off .1 p), λ n. go t refl n)
-    where
-      go : (b : Bool) → t ≡ b → (P → ⊥) → t ≡ true
-      go true e n = e
-      go false e n = absurd (n (off .0 e))
-
--- ---- of two tests
-pub or-off : (a b : Bool) → (a || b) ≡ false → (a ≡ false) × (b ≡ false)
-or-off true b e = absurd (true≢false e)
-or-off false b e = (refl, e)
-
-or-on : (a b : Bool) → (a || b) ≡ true → (a ≡ true) ⊎ (b ≡ true)
-or-on true b e = inl refl
-or-on false b e = inr e
-
-pub differ-off : (a b : ℕ) → (not (eqb a b) ≡ false) ↔ (a ≡ b)
-differ-off a b = (λ e. eqb-true a b (not-false (eqb a b) e), λ e. rw (eq-eqb a b e))
 
 -- ---- 1, 2, 11
 lengths-off : (a b c : ℕ) → (lengthsDiffer a b c ≡ false) ↔ ((b ≡ a) × (c ≡ a))

@@ -1,5 +1,2 @@
-pub mod Refusal
-pub mod Counting
-pub mod Filling
 pub mod Mesh
 pub mod Conditions

@@ -3,16 +3,18 @@
 -- equates what it reads with `triangleNodes` and `triangleIndices` of such a value, and the tests and laws are over these.
 use mathlib.Core.Bool.{Bool, not, _||_, cond}
 use mathlib.Core.List.{List, [], _∷_, map}
-use Prim.Native.Nat.{ℕ, _<_, _≤_}
-use mathlib.Core.Path.{_≡_}
+use Prim.Native.Nat.{ℕ}
 use lib.Dec.{leb, ltb, eqb}
 use lib.ListN.{length, getD}
 use lib.Ieee.{Float, lt}
+use denote.Ref.{RefT, now}
+use denote.Triple.Both.{Both}
 use Rattle.binary64.specs.Binary64.{_⊕_, _⊖_, _⊗_, _⊘_, bits, at, four}
 use Rattle.ieee754.specs.Ieee754.{sqrt}
 use Rattle.tri.specs.Mapping.{area}
-use Rattle.mesh.specs.Refusal.{Check, check, first, nodeColumns, panelColumns, missingNode, zeroArea, tooLarge}
-use Rattle.mesh.specs.Counting.{anyOf, someBelow, countBelow}
+use Rattle.refusal.specs.Numbers.{nodeColumns, panelColumns, missingNode, zeroArea, tooLarge}
+use Rattle.refusal.specs.Checks.{Check, check, first}
+use Rattle.lists.specs.Counting.{anyOf, someBelow, countBelow}
 
 -- coordinates of the nodes, and the nodes of each panel's three corners
 pub record Mesh : Type 0 where
@@ -26,6 +28,27 @@ pub record Mesh : Type 0 where
 abbrev pub meshOf : List Float → List Float → List Float → List ℕ → List ℕ → List ℕ → Mesh
 meshOf x y z a b c = record { xs = x; ys = y; zs = z; t0 = a; t1 = b; t2 = c }
 
+-- ---- six lent columns, as a contract names them
+-- where a call is entered, in a `requires`
+abbrev pub lentMesh : RefT (List Float) → RefT (List Float) → RefT (List Float) → RefT (List ℕ) → RefT (List ℕ) → RefT (List ℕ) → Mesh
+lentMesh x y z a b c = meshOf (now x) (now y) (now z) (now a) (now b) (now c)
+
+-- as they were passed, in an `ensures`
+abbrev pub passedMesh : {X Y Z A B C : Type 0} → Both (RefT (List Float)) X → Both (RefT (List Float)) Y → Both (RefT (List Float)) Z
+    → Both (RefT (List ℕ)) A → Both (RefT (List ℕ)) B → Both (RefT (List ℕ)) C → Mesh
+passedMesh x y z a b c = lentMesh (x .entry) (y .entry) (z .entry) (a .entry) (b .entry) (c .entry)
+
+-- as a call leaves them that may write the coordinates
+abbrev pub leftMesh : {A B C : Type 0} → Both (RefT (List Float)) (RefT (List Float)) → Both (RefT (List Float)) (RefT (List Float)) → Both (RefT (List Float)) (RefT (List Float))
+    → Both (RefT (List ℕ)) A → Both (RefT (List ℕ)) B → Both (RefT (List ℕ)) C → Mesh
+leftMesh x y z a b c = lentMesh (x .exit) (y .exit) (z .exit) (a .entry) (b .entry) (c .entry)
+
+-- as a call leaves them that may write all six
+abbrev pub writtenMesh : Both (RefT (List Float)) (RefT (List Float)) → Both (RefT (List Float)) (RefT (List Float)) → Both (RefT (List Float)) (RefT (List Float))
+    → Both (RefT (List ℕ)) (RefT (List ℕ)) → Both (RefT (List ℕ)) (RefT (List ℕ)) → Both (RefT (List ℕ)) (RefT (List ℕ)) → Mesh
+writtenMesh x y z a b c = lentMesh (x .exit) (y .exit) (z .exit) (a .exit) (b .exit) (c .exit)
+
+-- ---- its parts
 abbrev pub nnode : Mesh → ℕ
 nnode m = length (m .xs)
 
@@ -64,8 +87,11 @@ unfoldable pub isZeroArea : List (List Float) → Bool
 isZeroArea t = lt (area t) smallestArea
 
 -- 3 and 4 over all panels
+abbrev pub someMisses : ℕ → Mesh → Bool
+someMisses n m = someBelow (λ i. missesNode n (triangleIndices m i)) (ntri m)
+
 abbrev pub someMissesNode : Mesh → Bool
-someMissesNode m = someBelow (λ i. missesNode (nnode m) (triangleIndices m i)) (ntri m)
+someMissesNode m = someMisses (nnode m) m
 
 abbrev pub someZeroArea : Mesh → Bool
 someZeroArea m = someBelow (λ i. isZeroArea (triangleNodes m i)) (ntri m)

@@ -5,37 +5,11 @@ ghost use mathlib.Core.Path.{_≡_};
 ghost use mathlib.Core.List.{[]};
 ghost use Prim.Native.Nat.{_<_};
 ghost use lib.ListN.{length};
-ghost use Rattle.mesh.specs.Counting.{three, someBelow};
+ghost use Rattle.lists.specs.Lent.{passed};
+ghost use Rattle.lists.specs.Counting.{three};
 ghost use Rattle.mesh.specs.Conditions.{NodeColumnsAlike, PanelColumnsAlike, Below, NoneMissing, Tested};
 ghost use Rattle.mesh.specs.Mesh as Spec;
-ghost use Rattle.mesh.specs.Mesh.{meshOf, maxNodes, maxPanels};
-
-// The numbers of document 01's table, by its words; specs/Refusal.antt has the same.
-pub const NODE_COLUMNS: u32 = 1;
-
-pub const PANEL_COLUMNS: u32 = 2;
-
-pub const MISSING_NODE: u32 = 3;
-
-pub const ZERO_AREA: u32 = 4;
-
-pub const NODAL_VALUES: u32 = 5;
-
-pub const OUTPUT_LENGTH: u32 = 6;
-
-pub const MATRIX_LENGTH: u32 = 7;
-
-pub const COEFFICIENTS: u32 = 8;
-
-pub const MAP_LENGTH: u32 = 9;
-
-pub const FLUX_LENGTH: u32 = 10;
-
-pub const TOO_LARGE: u32 = 11;
-
-pub const NO_SUCH_CHOICE: u32 = 12;
-
-pub const NO_SUCH_NODE: u32 = 13;
+ghost use Rattle.mesh.specs.Mesh.{meshOf, maxNodes, maxPanels, passedMesh, lentMesh};
 
 // The limits of every call but the program `density`.
 pub const MAX_NODES: usize = 4096;
@@ -45,7 +19,7 @@ pub const MAX_PANELS: usize = 8192;
 // The coordinates of a node.
 pub fn node(x: &[f64], y: &[f64], z: &[f64], k: usize) -> [f64; 3]
     requires { ⌜ (k < length (now x)) × (k < length (now y)) × (k < length (now z)) ⌝ }
-    ensures { λ r. ⌜ r ≡ Spec.node (meshOf (now (x .entry)) (now (y .entry)) (now (z .entry)) [] [] []) k ⌝ }
+    ensures { λ r. ⌜ r ≡ Spec.node (meshOf (passed x) (passed y) (passed z) [] [] []) k ⌝ }
 {
     [x[k], y[k], z[k]]
 }
@@ -53,7 +27,7 @@ pub fn node(x: &[f64], y: &[f64], z: &[f64], k: usize) -> [f64; 3]
 // The nodes of panel i.
 pub fn triangle_indices(t0: &[usize], t1: &[usize], t2: &[usize], i: usize) -> [usize; 3]
     requires { ⌜ (i < length (now t0)) × (i < length (now t1)) × (i < length (now t2)) ⌝ }
-    ensures { λ r. ⌜ r ≡ Spec.triangleIndices (meshOf [] [] [] (now (t0 .entry)) (now (t1 .entry)) (now (t2 .entry))) i ⌝ }
+    ensures { λ r. ⌜ r ≡ Spec.triangleIndices (meshOf [] [] [] (passed t0) (passed t1) (passed t2)) i ⌝ }
 {
     [t0[i], t1[i], t2[i]]
 }
@@ -68,10 +42,10 @@ pub fn triangle_nodes(
     t2: &[usize],
     i: usize,
 ) -> [[f64; 3]; 3]
-    requires { ⌜ NodeColumnsAlike (meshOf (now x) (now y) (now z) (now t0) (now t1) (now t2)) ⌝ }
-    requires { ⌜ PanelColumnsAlike (meshOf (now x) (now y) (now z) (now t0) (now t1) (now t2)) ⌝ }
-    requires { ⌜ (i < length (now t0)) × Below (meshOf (now x) (now y) (now z) (now t0) (now t1) (now t2)) i ⌝ }
-    ensures { λ r. ⌜ r ≡ Spec.triangleNodes (meshOf (now (x .entry)) (now (y .entry)) (now (z .entry)) (now (t0 .entry)) (now (t1 .entry)) (now (t2 .entry))) i ⌝ }
+    requires { ⌜ NodeColumnsAlike (lentMesh x y z t0 t1 t2) ⌝ }
+    requires { ⌜ PanelColumnsAlike (lentMesh x y z t0 t1 t2) ⌝ }
+    requires { ⌜ (i < length (now t0)) × Below (lentMesh x y z t0 t1 t2) i ⌝ }
+    ensures { λ r. ⌜ r ≡ Spec.triangleNodes (passedMesh x y z t0 t1 t2) i ⌝ }
 {
     let a = node(x, y, z, t0[i]);
     let b = node(x, y, z, t1[i]);
@@ -103,7 +77,7 @@ pub fn misses_node(n: usize, indices: [usize; 3]) -> bool
 // 3, over all panels
 fn some_misses_node(n: usize, t0: &[usize], t1: &[usize], t2: &[usize]) -> bool
     requires { ⌜ PanelColumnsAlike (meshOf [] [] [] (now t0) (now t1) (now t2)) ⌝ }
-    ensures { λ r. ⌜ r ≡ someBelow (λ i. Spec.missesNode n (Spec.triangleIndices (meshOf [] [] [] (now (t0 .entry)) (now (t1 .entry)) (now (t2 .entry))) i)) (length (now (t0 .entry))) ⌝ }
+    ensures { λ r. ⌜ r ≡ Spec.someMisses n (meshOf [] [] [] (passed t0) (passed t1) (passed t2)) ⌝ }
 {
     let mut i = 0;
     while i < t0.len() {
@@ -124,10 +98,10 @@ pub fn is_zero_area(t: [[f64; 3]; 3]) -> bool
 
 // 4, over all panels
 fn some_zero_area(x: &[f64], y: &[f64], z: &[f64], t0: &[usize], t1: &[usize], t2: &[usize]) -> bool
-    requires { ⌜ NodeColumnsAlike (meshOf (now x) (now y) (now z) (now t0) (now t1) (now t2)) ⌝ }
-    requires { ⌜ PanelColumnsAlike (meshOf (now x) (now y) (now z) (now t0) (now t1) (now t2)) ⌝ }
-    requires { ⌜ NoneMissing (meshOf (now x) (now y) (now z) (now t0) (now t1) (now t2)) ⌝ }
-    ensures { λ r. ⌜ r ≡ Spec.someZeroArea (meshOf (now (x .entry)) (now (y .entry)) (now (z .entry)) (now (t0 .entry)) (now (t1 .entry)) (now (t2 .entry))) ⌝ }
+    requires { ⌜ NodeColumnsAlike (lentMesh x y z t0 t1 t2) ⌝ }
+    requires { ⌜ PanelColumnsAlike (lentMesh x y z t0 t1 t2) ⌝ }
+    requires { ⌜ NoneMissing (lentMesh x y z t0 t1 t2) ⌝ }
+    ensures { λ r. ⌜ r ≡ Spec.someZeroArea (passedMesh x y z t0 t1 t2) ⌝ }
 {
     let mut i = 0;
     while i < t0.len() {
@@ -150,22 +124,22 @@ pub fn mesh_refusal_within(
     t1: &[usize],
     t2: &[usize],
 ) -> u32
-    ensures { λ r. ⌜ r ≡ Spec.meshRefusal nodes panels (meshOf (now (x .entry)) (now (y .entry)) (now (z .entry)) (now (t0 .entry)) (now (t1 .entry)) (now (t2 .entry))) ⌝ }
+    ensures { λ r. ⌜ r ≡ Spec.meshRefusal nodes panels (passedMesh x y z t0 t1 t2) ⌝ }
 {
     if lengths_differ(x.len(), y.len(), z.len()) {
-        return NODE_COLUMNS;
+        return refusal::NODE_COLUMNS;
     }
     if lengths_differ(t0.len(), t1.len(), t2.len()) {
-        return PANEL_COLUMNS;
+        return refusal::PANEL_COLUMNS;
     }
     if passes_limits(nodes, panels, x.len(), t0.len()) {
-        return TOO_LARGE;
+        return refusal::TOO_LARGE;
     }
     if some_misses_node(x.len(), t0, t1, t2) {
-        return MISSING_NODE;
+        return refusal::MISSING_NODE;
     }
     if some_zero_area(x, y, z, t0, t1, t2) {
-        return ZERO_AREA;
+        return refusal::ZERO_AREA;
     }
     0
 }
@@ -179,7 +153,7 @@ pub fn mesh_refusal(
     t1: &[usize],
     t2: &[usize],
 ) -> u32
-    ensures { λ r. ⌜ r ≡ Spec.meshRefusal maxNodes maxPanels (meshOf (now (x .entry)) (now (y .entry)) (now (z .entry)) (now (t0 .entry)) (now (t1 .entry)) (now (t2 .entry))) ⌝ }
+    ensures { λ r. ⌜ r ≡ Spec.meshRefusal maxNodes maxPanels (passedMesh x y z t0 t1 t2) ⌝ }
 {
     mesh_refusal_within(MAX_NODES, MAX_PANELS, x, y, z, t0, t1, t2)
 }
@@ -211,10 +185,10 @@ fn is_poor(t: [[f64; 3]; 3]) -> bool
 
 // The number of poor panels: the original warns about each.
 fn count_poor(x: &[f64], y: &[f64], z: &[f64], t0: &[usize], t1: &[usize], t2: &[usize]) -> usize
-    requires { ⌜ NodeColumnsAlike (meshOf (now x) (now y) (now z) (now t0) (now t1) (now t2)) ⌝ }
-    requires { ⌜ PanelColumnsAlike (meshOf (now x) (now y) (now z) (now t0) (now t1) (now t2)) ⌝ }
-    requires { ⌜ NoneMissing (meshOf (now x) (now y) (now z) (now t0) (now t1) (now t2)) ⌝ }
-    ensures { λ r. ⌜ r ≡ Spec.poorPanels (meshOf (now (x .entry)) (now (y .entry)) (now (z .entry)) (now (t0 .entry)) (now (t1 .entry)) (now (t2 .entry))) ⌝ }
+    requires { ⌜ NodeColumnsAlike (lentMesh x y z t0 t1 t2) ⌝ }
+    requires { ⌜ PanelColumnsAlike (lentMesh x y z t0 t1 t2) ⌝ }
+    requires { ⌜ NoneMissing (lentMesh x y z t0 t1 t2) ⌝ }
+    ensures { λ r. ⌜ r ≡ Spec.poorPanels (passedMesh x y z t0 t1 t2) ⌝ }
 {
     let mut poor: usize = 0;
     let mut i = 0;
@@ -242,7 +216,7 @@ pub fn validate_triangle_mesh_geometry(
     t1: &[usize],
     t2: &[usize],
 ) -> MeshTest
-    ensures { λ r. ⌜ Tested (meshOf (now (x .entry)) (now (y .entry)) (now (z .entry)) (now (t0 .entry)) (now (t1 .entry)) (now (t2 .entry))) (r .refusal) (r .poor) ⌝ }
+    ensures { λ r. ⌜ Tested (passedMesh x y z t0 t1 t2) (r .refusal) (r .poor) ⌝ }
 {
     let refusal = mesh_refusal(x, y, z, t0, t1, t2);
     if refusal != 0 {

@@ -1,17 +1,18 @@
 -- The call's number by its conditions: by cases on the rule it is the first of one list, 12 before the mesh's checks and 6 behind them, and the laws of a call that tests its mesh do the rest.
 use mathlib.Core.Path.{_≡_, refl, sym, subst}
 use mathlib.Core.Logic.{_↔_}
-use mathlib.Core.Bool.{false, not, _||_}
+use mathlib.Core.Bool.{false}
 use mathlib.Core.List.{List, [], _∷_, _++_}
 use Prim.Native.Nat.{ℕ, _*_}
 use borrow.Author.Tests.{eq-eqb}
-use lib.Dec.{eqb}
 use Rattle.tri.specs.Quadrature.{quadratureRule, NoSuchRule, isUnknown}
 use Rattle.tri.specs.declared.quadrature.Rule.{Rule}
 use Rattle.tri.specs.declared.quadrature.Rule.the-variants.{Known, Unknown}
-use Rattle.mesh.specs.Refusal.{Check, check, first, none-applies, applies-first, noSuchChoice, outputLength, zeroArea}
+use Rattle.refusal.specs.Numbers.{noSuchChoice, outputLength}
+use Rattle.refusal.specs.Checks.{Check, check, first}
+use Rattle.refusal.proofs.Checks.{applies-first}
 use Rattle.mesh.specs.Mesh.{Mesh, ntri, meshChecks, maxNodes, maxPanels}
-use Rattle.mesh.proofs.Refusals.{on, or-off, differ-off}
+use Rattle.refusal.proofs.Tests.{on, or-off, differ-off}
 use Rattle.mesh.proofs.Calls.{call-before, call-behind, call-area, call-done, call-of-mesh, ruleChecks, rule-passed, rule-stopped}
 use Rattle.mesh_points.specs.QuadraturePoints.{pointOutputsDiffer, pointsRefusal, ruleRefusal, pointsIn, PointOutputsDue, PointsNumbered}
 

@@ -1,14 +1,15 @@
 -- A column of C numbers a panel, panel after panel: number i·C + k is number k of panel i, so a panel's run of numbers takes the column from panel i to panel i + 1.
-use mathlib.Core.Path.{_≡_, refl, sym, ap, _∙_}
+use mathlib.Core.Path.{_≡_, sym, ap, _∙_}
 use mathlib.Core.List.{List}
-use Prim.Native.Nat.{ℕ, suc, _+_, _*_, _/_, _%_, _<_, _≤_}
+use Prim.Native.Nat.{ℕ, _+_, _*_, _/_, _%_, _<_, _≤_}
 use native.Mathlib.Nat.{mul-add-div-right, mul-add-mod-self-right, mod-eq-of-lt, div-eq-of-lt, add-zero, suc-mul, mul-le-mul-right, zero-mul, le-of-eq, le-trans}
 use native.Mathlib.Numerals.{add-one}
 use native.Mathlib.Omega.{arith}
 use lib.Ieee.{Float}
 use lib.ListN.{length}
 use Rattle.tri.specs.Mapping.{Tri}
-use Rattle.mesh.specs.Filling.{tabulate, filled, run, fill-start, fill-length, fill-run, column-end}
+use Rattle.lists.specs.Filling.{tabulate, filled, run}
+use Rattle.lists.proofs.Filling.{fill-start, fill-length, run-run, column-end}
 use Rattle.mesh.specs.Mesh.{Mesh, triangleNodes}
 
 abbrev pub column : Mesh → (Tri → ℕ → Float) → ℕ → ℕ → Float
@@ -45,7 +46,7 @@ module _ (m : Mesh) (f : Tri → ℕ → Float) (C p : ℕ) (held : List Float) 
       ∙ ap (λ (a : ℕ). run now a C (f t) C) s
       ∙ ap (λ (v : Tri). run now (i * C) C (f v) C) e
       ∙ ap (λ (r : List Float). run r (i * C) C (f (triangleNodes m i)) C) w
-      ∙ fill-run held (p * C) (column m f C) (f (triangleNodes m i)) (i * C) C long (next-panel i l) (λ k h. number-at m f C i k h)
+      ∙ run-run held (p * C) (column m f C) (f (triangleNodes m i)) (i * C) C (next-panel i l) (λ k h. number-at m f C i k h)
       ∙ ap (filled held (p * C) (column m f C)) (one-more i)
 
   pub panels-end : (now : List Float) (i : ℕ) → i ≡ p → now ≡ filled held (p * C) (column m f C) (i * C) → now ≡ tabulate (p * C) (column m f C)

@@ -8,7 +8,8 @@ use lib.Dec.{eqb}
 use lib.Ieee.{Float}
 use lib.ListN.{length}
 use Rattle.mesh.specs.Mesh.{Mesh, ntri, maxNodes, maxPanels}
-use Rattle.mesh.proofs.Refusals.{mesh-accepted, or-off}
+use Rattle.refusal.proofs.Tests.{or-off}
+use Rattle.mesh.proofs.Refusals.{mesh-accepted}
 use Rattle.tri.specs.declared.quadrature.QuadratureKind.{QuadratureKind}
 use Rattle.mesh_points.specs.QuadraturePoints.{pointOutputsDiffer, pointChecks, pointsRefusal, PointsReady}
 

@@ -14,8 +14,9 @@ use Rattle.tri.specs.Quadrature.{quadratureRow, quadratureCount, quadratureRule
 use Rattle.tri.specs.declared.quadrature.QuadratureKind.{QuadratureKind}
 use Rattle.tri.specs.declared.quadrature.Rule.{Rule}
 use Rattle.tri.specs.declared.quadrature.Rule.the-variants.{Known, Unknown}
-use Rattle.mesh.specs.Refusal.{Check, check, first, after, outputLength, noSuchChoice, zeroArea}
-use Rattle.mesh.specs.Filling.{tabulate, run}
+use Rattle.refusal.specs.Numbers.{outputLength, noSuchChoice, zeroArea}
+use Rattle.refusal.specs.Checks.{Check, check, first, after}
+use Rattle.lists.specs.Filling.{tabulate, run}
 use Rattle.mesh.specs.Conditions.{Refused4, Accepted, MeshNumbered}
 use Rattle.mesh.specs.Mesh.{Mesh, ntri, triangleNodes, meshChecks, maxNodes, maxPanels}
 
@@ -106,6 +107,11 @@ pub record Run (px py pz pw : List Float) (a c : ℕ) (f : ℕ → ℕ → Float
   pub z : pz' ≡ run pz a c (f 2) c
   pub weights : pw' ≡ run pw a c w c
 
+-- the points and weights of one triangle, from index start on
+abbrev pub PanelRun : QuadratureKind → Tri → ℕ → List Float → List Float → List Float → List Float → List Float → List Float → List Float → List Float → Type 0
+PanelRun kind t start px py pz pw px' py' pz' pw' =
+    Run px py pz pw start (quadratureCount kind) (λ c k. at (quadraturePoint kind t k) c) (quadratureWeight kind t) px' py' pz' pw'
+
 -- columns of one number a point for a mesh that was accepted
 pub record PointsReady (kind : QuadratureKind) (m : Mesh) (px py pz pw : List Float) : Type 0 where
   pub accepted : Accepted maxNodes maxPanels m
@@ -128,3 +134,10 @@ pub record Points (rule : Rule) (m : Mesh) (px py pz pw : List Float) (r : ℕ) 
   pub y : py' ≡ after r (pointsDue rule m 1) py
   pub z : pz' ≡ after r (pointsDue rule m 2) pz
   pub weights : pw' ≡ after r (weightsDue rule m) pw
+
+-- the same for a rule by its number, and for a rule that there is
+abbrev pub PointsBy : ℕ → Mesh → List Float → List Float → List Float → List Float → ℕ → List Float → List Float → List Float → List Float → Type 0
+PointsBy number m px py pz pw r px' py' pz' pw' = Points (quadratureRule number) m px py pz pw r px' py' pz' pw'
+
+abbrev pub PointsUnder : QuadratureKind → Mesh → List Float → List Float → List Float → List Float → ℕ → List Float → List Float → List Float → List Float → Type 0
+PointsUnder kind m px py pz pw r px' py' pz' pw' = Points (Known kind) m px py pz pw r px' py' pz' pw'

@@ -1,12 +1,13 @@
 // The quadrature points of every panel and their area weights, panel after panel.
 ghost use mathlib.Core.Path.{_≡_};
 ghost use Prim.Native.Nat.{_<_, _+_};
+ghost use Rattle.lists.specs.Lent.{passed, left};
 ghost use Rattle.binary64.specs.Binary64.{at, _⊗_};
-ghost use Rattle.tri.specs.Quadrature.{quadratureCount, quadratureRow, quadratureRule};
+ghost use Rattle.tri.specs.Quadrature.{quadratureCount, quadratureRow};
 ghost use Rattle.tri.specs.declared.quadrature.Rule.the-variants.{Known};
-ghost use Rattle.mesh.specs.Mesh.{meshOf};
+ghost use Rattle.mesh.specs.Mesh.{passedMesh, lentMesh};
 ghost use Rattle.mesh_points.specs.QuadraturePoints as Spec;
-ghost use Rattle.mesh_points.specs.QuadraturePoints.{StoredPoint, Within, Run, PointsReady, Filled, Points};
+ghost use Rattle.mesh_points.specs.QuadraturePoints.{StoredPoint, Within, PointsReady, Filled, PointsBy, PointsUnder};
 use tri::quadrature::QuadratureKind;
 use tri::quadrature::Rule;
 
@@ -39,7 +40,7 @@ fn store_point(
     weight: f64,
 )
     requires { ⌜ Within (i + 1) (now px) (now py) (now pz) (now pw) ⌝ }
-    ensures { λ _. ⌜ StoredPoint (now (px .entry)) (now (py .entry)) (now (pz .entry)) (now (pw .entry)) i v weight (now (px .exit)) (now (py .exit)) (now (pz .exit)) (now (pw .exit)) ⌝ }
+    ensures { λ _. ⌜ StoredPoint (passed px) (passed py) (passed pz) (passed pw) i v weight (left px) (left py) (left pz) (left pw) ⌝ }
 {
     px[i] = v[0];
     py[i] = v[1];
@@ -58,7 +59,7 @@ fn fill_panel(
     pw: &mut [f64],
 )
     requires { ⌜ Within (start + quadratureCount kind) (now px) (now py) (now pz) (now pw) ⌝ }
-    ensures { λ _. ⌜ Run (now (px .entry)) (now (py .entry)) (now (pz .entry)) (now (pw .entry)) start (quadratureCount kind) (λ c k. at (Spec.quadraturePoint kind t k) c) (Spec.quadratureWeight kind t) (now (px .exit)) (now (py .exit)) (now (pz .exit)) (now (pw .exit)) ⌝ }
+    ensures { λ _. ⌜ Spec.PanelRun kind t start (passed px) (passed py) (passed pz) (passed pw) (left px) (left py) (left pz) (left pw) ⌝ }
 {
     let area = tri::mapping::area(t);
     let count = tri::quadrature::quadrature_count(kind);
@@ -85,8 +86,8 @@ fn fill_points(
     pz: &mut [f64],
     pw: &mut [f64],
 )
-    requires { ⌜ PointsReady kind (meshOf (now x) (now y) (now z) (now t0) (now t1) (now t2)) (now px) (now py) (now pz) (now pw) ⌝ }
-    ensures { λ _. ⌜ Filled kind (meshOf (now (x .entry)) (now (y .entry)) (now (z .entry)) (now (t0 .entry)) (now (t1 .entry)) (now (t2 .entry))) (now (px .exit)) (now (py .exit)) (now (pz .exit)) (now (pw .exit)) ⌝ }
+    requires { ⌜ PointsReady kind (lentMesh x y z t0 t1 t2) (now px) (now py) (now pz) (now pw) ⌝ }
+    ensures { λ _. ⌜ Filled kind (passedMesh x y z t0 t1 t2) (left px) (left py) (left pz) (left pw) ⌝ }
 {
     let count = tri::quadrature::quadrature_count(kind);
     let mut i = 0;
@@ -118,7 +119,7 @@ fn points_refusal(
     lz: usize,
     lw: usize,
 ) -> u32
-    ensures { λ r. ⌜ r ≡ Spec.pointsRefusal kind (meshOf (now (x .entry)) (now (y .entry)) (now (z .entry)) (now (t0 .entry)) (now (t1 .entry)) (now (t2 .entry))) lx ly lz lw ⌝ }
+    ensures { λ r. ⌜ r ≡ Spec.pointsRefusal kind (passedMesh x y z t0 t1 t2) lx ly lz lw ⌝ }
 {
     let refusal = mesh::mesh_refusal(x, y, z, t0, t1, t2);
     if refusal != 0 {
@@ -126,7 +127,7 @@ fn points_refusal(
     }
     let due = t0.len() * tri::quadrature::quadrature_count(kind);
     if point_outputs_differ(due, lx, ly, lz, lw) {
-        return mesh::OUTPUT_LENGTH;
+        return refusal::OUTPUT_LENGTH;
     }
     0
 }
@@ -145,7 +146,7 @@ fn points_under(
     pz: &mut [f64],
     pw: &mut [f64],
 ) -> u32
-    ensures { λ r. ⌜ Points (Known kind) (meshOf (now (x .entry)) (now (y .entry)) (now (z .entry)) (now (t0 .entry)) (now (t1 .entry)) (now (t2 .entry))) (now (px .entry)) (now (py .entry)) (now (pz .entry)) (now (pw .entry)) r (now (px .exit)) (now (py .exit)) (now (pz .exit)) (now (pw .exit)) ⌝ }
+    ensures { λ r. ⌜ PointsUnder kind (passedMesh x y z t0 t1 t2) (passed px) (passed py) (passed pz) (passed pw) r (left px) (left py) (left pz) (left pw) ⌝ }
 {
     let refusal = points_refusal(
         kind,
@@ -181,11 +182,11 @@ pub fn triangle_mesh_quadrature_points(
     pz: &mut [f64],
     pw: &mut [f64],
 ) -> u32
-    ensures { λ r. ⌜ Points (quadratureRule rule) (meshOf (now (x .entry)) (now (y .entry)) (now (z .entry)) (now (t0 .entry)) (now (t1 .entry)) (now (t2 .entry))) (now (px .entry)) (now (py .entry)) (now (pz .entry)) (now (pw .entry)) r (now (px .exit)) (now (py .exit)) (now (pz .exit)) (now (pw .exit)) ⌝ }
+    ensures { λ r. ⌜ PointsBy rule (passedMesh x y z t0 t1 t2) (passed px) (passed py) (passed pz) (passed pw) r (left px) (left py) (left pz) (left pw) ⌝ }
 {
     let known = tri::quadrature::quadrature_rule(rule);
     match known {
         Rule::Known(kind) => points_under(kind, x, y, z, t0, t1, t2, px, py, pz, pw),
-        Rule::Unknown => mesh::NO_SUCH_CHOICE,
+        Rule::Unknown => refusal::NO_SUCH_CHOICE,
     }
 }

@@ -8,14 +8,15 @@ use native.Mathlib.Nat.{lt-of-lt-of-le}
 use lib.ListN.{length, length-set, replicate}
 use lib.Ieee.{Float}
 use borrow.Author.Tests.{eqb-false}
-use Rattle.mesh.specs.Counting.{countBelow, none-at, count-alike}
-use Rattle.mesh.specs.Mesh.{Mesh, node, nnode, ntri, maxNodes}
+use Rattle.lists.specs.Counting.{countBelow}
+use Rattle.lists.proofs.Counting.{none-at, count-alike}
+use Rattle.mesh.specs.Mesh.{Mesh, nnode, ntri, maxNodes}
 use Rattle.scatter.specs.Entries.{same, contributions, cellSum, square}
 use Rattle.scatter.specs.Renewal.{marked, renewed}
 use Rattle.scatter.proofs.Renewals.{renewed-same}
 use Rattle.scatter.specs.Flags.{IndicesBelow}
-use Rattle.pair_nest.specs.Additions.{Block, entries}
-use Rattle.pair_nest.specs.Ready.{Ready}
+use Rattle.pair_loops.specs.Additions.{Block, entries}
+use Rattle.pair_loops.specs.Ready.{Ready}
 use Rattle.inductance.specs.Matrix.{cell, matrix}
 use Rattle.inductance.specs.Change.{Changed, Apart}
 use Rattle.inductance.proofs.Change.{renewed-by}

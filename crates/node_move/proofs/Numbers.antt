@@ -2,18 +2,21 @@
 -- A mesh that was accepted and has no panel of zero area once moved is accepted as moved.
 use mathlib.Core.Path.{_≡_, sym, _∙_}
 use mathlib.Core.Logic.{_↔_, _⊎_, inl, inr}
-use mathlib.Core.Bool.{Bool, true, false, not}
-use mathlib.Core.List.{[], _∷_, _++_}
+use mathlib.Core.Bool.{Bool, false, not}
+use mathlib.Core.List.{[], _∷_}
 use Prim.Native.Nat.{ℕ, _*_, _<_, _≤_}
 use borrow.Author.Tests.{leb-true, leb-false, le-leb, lt-leb}
 use lib.Dec.{eqb, leb}
 use lib.ListN.{length-set}
 use lib.Ieee.{Float}
 use Rattle.tri.specs.Quadrature.{quadratureRule, NoSuchRule}
-use Rattle.mesh.specs.Refusal.{Check, check, first, applies-first, noSuchChoice, outputLength, noSuchNode, zeroArea}
+use Rattle.refusal.specs.Numbers.{noSuchChoice, outputLength, noSuchNode, zeroArea}
+use Rattle.refusal.specs.Checks.{check, first}
+use Rattle.refusal.proofs.Checks.{applies-first}
 use Rattle.mesh.specs.Mesh.{Mesh, nnode, someZeroArea, meshRefusal, maxNodes, maxPanels}
 use Rattle.mesh.specs.Conditions.{ZeroArea, NoZeroArea, Refused4, Accepted}
-use Rattle.mesh.proofs.Refusals.{on, differ-off, numbered, area-on, area-off}
+use Rattle.refusal.proofs.Tests.{on, differ-off}
+use Rattle.mesh.proofs.Refusals.{numbered, area-on, area-off}
 use Rattle.mesh.proofs.Calls.{call-before, call-behind, call-twice, call-done, call-of-mesh, ruleChecks, rule-passed, rule-stopped}
 use Rattle.node_move.specs.Move.{moved, placeChecks, placeRefusal, moveRefusal, MovedRefused4, MoveNumbered}
 

@@ -11,10 +11,11 @@ use Rattle.tri.specs.declared.quadrature.QuadratureKind.{QuadratureKind}
 use Rattle.tri.specs.declared.quadrature.Rule.{Rule}
 use Rattle.tri.specs.declared.quadrature.Rule.the-variants.{Known, Unknown}
 use Rattle.tri.proofs.Rules.{rule-on}
-use Rattle.mesh.specs.Refusal.{first, noSuchChoice}
+use Rattle.refusal.specs.Numbers.{noSuchChoice}
+use Rattle.refusal.specs.Checks.{first}
 use Rattle.mesh.specs.Mesh.{Mesh, nnode, maxNodes, maxPanels}
 use Rattle.mesh.proofs.Refusals.{mesh-accepted}
-use Rattle.pair_nest.specs.Additions.{Block}
+use Rattle.pair_loops.specs.Additions.{Block}
 use Rattle.scatter.proofs.Cells.{length-square}
 use Rattle.inductance.specs.Matrix.{cell, matrix}
 use Rattle.inductance.specs.Assembly.{blockUnder}

@@ -8,7 +8,8 @@ use lib.Ieee.{Float}
 use Rattle.tri.specs.Quadrature.{quadratureRule, NoSuchRule, isUnknown}
 use Rattle.tri.specs.declared.quadrature.QuadratureKind.{QuadratureKind}
 use Rattle.tri.specs.declared.quadrature.Rule.{Rule}
-use Rattle.mesh.specs.Refusal.{check, first, noSuchChoice, outputLength, noSuchNode, zeroArea}
+use Rattle.refusal.specs.Numbers.{noSuchChoice, outputLength, noSuchNode, zeroArea}
+use Rattle.refusal.specs.Checks.{check, first}
 use Rattle.mesh.specs.Mesh.{Mesh, nnode, ntri, meshChecks, maxNodes, maxPanels}
 use Rattle.mesh.specs.Conditions.{NodeColumnsAlike, PanelColumnsAlike, NoneMissing, ZeroArea, Refused4, Accepted, MeshNumbered}
 use Rattle.coupling.specs.Block.{mutualInductanceBlock}

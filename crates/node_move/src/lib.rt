@@ -1,7 +1,7 @@
 // The move of one node: its place is written and the cells of its ring's rows and columns are worked
 // out anew, so that a fresh matrix is left fresh. Every test is made before anything is written.
-ghost use mathlib.Core.Path.{_≡_};
-ghost use Rattle.mesh.specs.Mesh.{meshOf};
+ghost use Rattle.lists.specs.Lent.{passed, left};
+ghost use Rattle.mesh.specs.Mesh.{passedMesh, leftMesh, lentMesh};
 ghost use Rattle.coupling.specs.Block.{mutualInductanceBlock};
 ghost use Rattle.inductance.specs.Matrix.{cell};
 ghost use Rattle.node_move.specs.Move.{Done, MovedBy, MovedUnder, MoveReady};
@@ -23,8 +23,8 @@ fn move_accepted(
     py: f64,
     pz: f64,
 ) -> usize
-    requires { ⌜ MoveReady (meshOf (now x) (now y) (now z) (now t0) (now t1) (now t2)) (now out) v ⌝ }
-    ensures { λ r. ⌜ Done (cell (mutualInductanceBlock kind)) (meshOf (now (x .entry)) (now (y .entry)) (now (z .entry)) (now (t0 .entry)) (now (t1 .entry)) (now (t2 .entry))) (now (out .entry)) v px py pz r (meshOf (now (x .exit)) (now (y .exit)) (now (z .exit)) (now (t0 .entry)) (now (t1 .entry)) (now (t2 .entry))) (now (out .exit)) ⌝ }
+    requires { ⌜ MoveReady (lentMesh x y z t0 t1 t2) (now out) v ⌝ }
+    ensures { λ r. ⌜ Done (cell (mutualInductanceBlock kind)) (passedMesh x y z t0 t1 t2) (passed out) v px py pz r (leftMesh x y z t0 t1 t2) (left out) ⌝ }
 {
     let n = x.len();
     let mut marks = [false; mesh::MAX_NODES];
@@ -58,7 +58,7 @@ fn move_under(
     py: f64,
     pz: f64,
 ) -> Moved
-    ensures { λ r. ⌜ MovedUnder kind (meshOf (now (x .entry)) (now (y .entry)) (now (z .entry)) (now (t0 .entry)) (now (t1 .entry)) (now (t2 .entry))) (now (out .entry)) v px py pz (r .refusal) (r .count) (meshOf (now (x .exit)) (now (y .exit)) (now (z .exit)) (now (t0 .entry)) (now (t1 .entry)) (now (t2 .entry))) (now (out .exit)) ⌝ }
+    ensures { λ r. ⌜ MovedUnder kind (passedMesh x y z t0 t1 t2) (passed out) v px py pz (r .refusal) (r .count) (leftMesh x y z t0 t1 t2) (left out) ⌝ }
 {
     let refusal = node_ring::place_refusal(x, y, z, t0, t1, t2, out.len(), v, px, py, pz);
     if refusal != 0 {
@@ -89,12 +89,12 @@ pub fn move_node(
     py: f64,
     pz: f64,
 ) -> Moved
-    ensures { λ r. ⌜ MovedBy rule (meshOf (now (x .entry)) (now (y .entry)) (now (z .entry)) (now (t0 .entry)) (now (t1 .entry)) (now (t2 .entry))) (now (out .entry)) v px py pz (r .refusal) (r .count) (meshOf (now (x .exit)) (now (y .exit)) (now (z .exit)) (now (t0 .entry)) (now (t1 .entry)) (now (t2 .entry))) (now (out .exit)) ⌝ }
+    ensures { λ r. ⌜ MovedBy rule (passedMesh x y z t0 t1 t2) (passed out) v px py pz (r .refusal) (r .count) (leftMesh x y z t0 t1 t2) (left out) ⌝ }
 {
     match tri::quadrature::quadrature_rule(rule) {
         Rule::Known(kind) => move_under(kind, x, y, z, t0, t1, t2, out, v, px, py, pz),
         Rule::Unknown => Moved {
-            refusal: mesh::NO_SUCH_CHOICE,
+            refusal: refusal::NO_SUCH_CHOICE,
             count: 0,
         },
     }

@@ -8,7 +8,8 @@ use native.Mathlib.Nat.{mul-le-mul-left}
 use lib.Dec.{eqb}
 use lib.ListN.{length}
 use borrow.Author.Tests.{eqb-true}
-use Rattle.mesh.specs.Counting.{anyOf, someBelow, countBelow, count-alike}
+use Rattle.lists.specs.Counting.{anyOf, someBelow, countBelow}
+use Rattle.lists.proofs.Counting.{count-alike}
 use Rattle.mesh.specs.Mesh.{Mesh, nnode, ntri, triangleIndices}
 use Rattle.scatter.specs.Entries.{same}
 use Rattle.node_ring.specs.Ring.{joins, ring, namedCount}

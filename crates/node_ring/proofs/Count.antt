@@ -4,7 +4,8 @@ use mathlib.Core.Bool.{Bool, true, false, cond}
 use Prim.Native.Nat.{ℕ, zero, suc, _+_, _*_, _-_}
 use native.Mathlib.Omega.{arith}
 use native.Mathlib.Nat.{add-mul, suc-mul, zero-mul, mul-comm, mul-assoc}
-use Rattle.mesh.specs.Counting.{countBelow, count-alike}
+use Rattle.lists.specs.Counting.{countBelow}
+use Rattle.lists.proofs.Counting.{count-alike}
 use Rattle.scatter.specs.Renewal.{named}
 use Rattle.node_ring.specs.Ring.{countRows, namedCount}
 

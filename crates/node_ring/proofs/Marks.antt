@@ -7,7 +7,8 @@ use lib.Dec.{eqb}
 use lib.ListN.{length, getD, set, replicate}
 use lib.Seq.{getD-set-same, getD-set-other, lt-length-set}
 use borrow.Author.Tests.{eqb-true, eqb-false}
-use Rattle.mesh.specs.Counting.{anyOf, three, someBelow, some-more}
+use Rattle.lists.specs.Counting.{anyOf, three, someBelow}
+use Rattle.lists.proofs.Counting.{some-more}
 use Rattle.mesh.specs.Mesh.{Mesh, triangleIndices}
 use Rattle.scatter.specs.Renewal.{marked, AllBelow}
 use Rattle.scatter.specs.Entries.{same}

@@ -5,7 +5,8 @@ use Prim.Native.Nat.{ℕ, _*_}
 use lib.Dec.{eqb, leb}
 use lib.ListN.{set}
 use lib.Ieee.{Float}
-use Rattle.mesh.specs.Refusal.{Check, check, first, outputLength, noSuchNode, zeroArea}
+use Rattle.refusal.specs.Numbers.{outputLength, noSuchNode, zeroArea}
+use Rattle.refusal.specs.Checks.{Check, check, first}
 use Rattle.mesh.specs.Mesh.{Mesh, meshOf, nnode, someZeroArea, meshChecks, maxNodes, maxPanels}
 
 -- Document 01's "moved mesh": the place (x, y, z) at node v, everything else as it was

@@ -1,7 +1,7 @@
 -- Document 01's move: the ring of changed nodes, the cells that a set of nodes names, and their count. Definitions only.
 use mathlib.Core.Bool.{Bool, _&&_}
 use Prim.Native.Nat.{ℕ, zero, suc, _+_}
-use Rattle.mesh.specs.Counting.{anyOf, someBelow, countBelow}
+use Rattle.lists.specs.Counting.{anyOf, someBelow, countBelow}
 use Rattle.mesh.specs.Mesh.{Mesh, ntri, triangleIndices}
 use Rattle.scatter.specs.Entries.{same}
 use Rattle.scatter.specs.Renewal.{named}

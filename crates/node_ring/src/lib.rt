@@ -5,8 +5,9 @@ ghost use mathlib.Core.Bool.{_||_, _&&_};
 ghost use mathlib.Core.List.{[]};
 ghost use Prim.Native.Nat.{ℕ, _<_, _≤_, _*_, _-_};
 ghost use lib.ListN.{length};
-ghost use Rattle.mesh.specs.Counting.{anyOf, three, countBelow};
-ghost use Rattle.mesh.specs.Mesh.{meshOf, node, triangleNodes, someZeroArea, maxNodes};
+ghost use Rattle.lists.specs.Lent.{passed, left};
+ghost use Rattle.lists.specs.Counting.{anyOf, three, countBelow};
+ghost use Rattle.mesh.specs.Mesh.{meshOf, node, triangleNodes, someZeroArea, maxNodes, passedMesh, lentMesh};
 ghost use Rattle.mesh.specs.Conditions.{NodeColumnsAlike, PanelColumnsAlike, Below, NoneMissing};
 ghost use Rattle.scatter.specs.Entries.{same};
 ghost use Rattle.scatter.specs.Renewal.{marked, AllBelow};
@@ -26,7 +27,7 @@ fn node_moved(
     k: usize,
 ) -> [f64; 3]
     requires { ⌜ (k < length (now x)) × (k < length (now y)) × (k < length (now z)) ⌝ }
-    ensures { λ r. ⌜ r ≡ node (moved (meshOf (now (x .entry)) (now (y .entry)) (now (z .entry)) [] [] []) v px py pz) k ⌝ }
+    ensures { λ r. ⌜ r ≡ node (moved (meshOf (passed x) (passed y) (passed z) [] [] []) v px py pz) k ⌝ }
 {
     if k == v {
         return [px, py, pz];
@@ -48,10 +49,10 @@ fn triangle_nodes_moved(
     pz: f64,
     i: usize,
 ) -> [[f64; 3]; 3]
-    requires { ⌜ NodeColumnsAlike (meshOf (now x) (now y) (now z) (now t0) (now t1) (now t2)) ⌝ }
-    requires { ⌜ PanelColumnsAlike (meshOf (now x) (now y) (now z) (now t0) (now t1) (now t2)) ⌝ }
-    requires { ⌜ (i < length (now t0)) × Below (meshOf (now x) (now y) (now z) (now t0) (now t1) (now t2)) i ⌝ }
-    ensures { λ r. ⌜ r ≡ triangleNodes (moved (meshOf (now (x .entry)) (now (y .entry)) (now (z .entry)) (now (t0 .entry)) (now (t1 .entry)) (now (t2 .entry))) v px py pz) i ⌝ }
+    requires { ⌜ NodeColumnsAlike (lentMesh x y z t0 t1 t2) ⌝ }
+    requires { ⌜ PanelColumnsAlike (lentMesh x y z t0 t1 t2) ⌝ }
+    requires { ⌜ (i < length (now t0)) × Below (lentMesh x y z t0 t1 t2) i ⌝ }
+    ensures { λ r. ⌜ r ≡ triangleNodes (moved (passedMesh x y z t0 t1 t2) v px py pz) i ⌝ }
 {
     let a = node_moved(x, y, z, v, px, py, pz, t0[i]);
     let b = node_moved(x, y, z, v, px, py, pz, t1[i]);
@@ -72,10 +73,10 @@ fn some_zero_area_moved(
     py: f64,
     pz: f64,
 ) -> bool
-    requires { ⌜ NodeColumnsAlike (meshOf (now x) (now y) (now z) (now t0) (now t1) (now t2)) ⌝ }
-    requires { ⌜ PanelColumnsAlike (meshOf (now x) (now y) (now z) (now t0) (now t1) (now t2)) ⌝ }
-    requires { ⌜ NoneMissing (meshOf (now x) (now y) (now z) (now t0) (now t1) (now t2)) ⌝ }
-    ensures { λ r. ⌜ r ≡ someZeroArea (moved (meshOf (now (x .entry)) (now (y .entry)) (now (z .entry)) (now (t0 .entry)) (now (t1 .entry)) (now (t2 .entry))) v px py pz) ⌝ }
+    requires { ⌜ NodeColumnsAlike (lentMesh x y z t0 t1 t2) ⌝ }
+    requires { ⌜ PanelColumnsAlike (lentMesh x y z t0 t1 t2) ⌝ }
+    requires { ⌜ NoneMissing (lentMesh x y z t0 t1 t2) ⌝ }
+    ensures { λ r. ⌜ r ≡ someZeroArea (moved (passedMesh x y z t0 t1 t2) v px py pz) ⌝ }
 {
     let mut i = 0;
     while i < t0.len() {
@@ -101,20 +102,20 @@ pub fn place_refusal(
     py: f64,
     pz: f64,
 ) -> u32
-    ensures { λ r. ⌜ r ≡ placeRefusal (meshOf (now (x .entry)) (now (y .entry)) (now (z .entry)) (now (t0 .entry)) (now (t1 .entry)) (now (t2 .entry))) size v px py pz ⌝ }
+    ensures { λ r. ⌜ r ≡ placeRefusal (passedMesh x y z t0 t1 t2) size v px py pz ⌝ }
 {
     let refusal = mesh::mesh_refusal(x, y, z, t0, t1, t2);
     if refusal != 0 {
         return refusal;
     }
     if size != x.len() * x.len() {
-        return mesh::OUTPUT_LENGTH;
+        return refusal::OUTPUT_LENGTH;
     }
     if x.len() <= v {
-        return mesh::NO_SUCH_NODE;
+        return refusal::NO_SUCH_NODE;
     }
     if some_zero_area_moved(x, y, z, t0, t1, t2, v, px, py, pz) {
-        return mesh::ZERO_AREA;
+        return refusal::ZERO_AREA;
     }
     0
 }
@@ -129,7 +130,7 @@ fn holds(s: [usize; 3], v: usize) -> bool
 // Three marks more.
 fn mark_three(marks: &mut [bool], s: [usize; 3])
     requires { ⌜ AllBelow (length (now marks)) (three s) ⌝ }
-    ensures { λ _. ⌜ ((a : ℕ) → marked (now (marks .exit)) a ≡ (marked (now (marks .entry)) a || anyOf (same a) (three s))) ⌝ }
+    ensures { λ _. ⌜ ((a : ℕ) → marked (left marks) a ≡ (marked (passed marks) a || anyOf (same a) (three s))) ⌝ }
 {
     marks[s[0]] = true;
     marks[s[1]] = true;
@@ -140,7 +141,7 @@ fn mark_three(marks: &mut [bool], s: [usize; 3])
 fn mark_panel(marks: &mut [bool], s: [usize; 3], v: usize)
     requires { ⌜ AllBelow (length (now marks)) (three s) ⌝ }
     requires { ⌜ v < length (now marks) ⌝ }
-    ensures { λ _. ⌜ ((a : ℕ) → marked (now (marks .exit)) a ≡ (marked (now (marks .entry)) a || (anyOf (same v) (three s) && anyOf (same a) (three s)))) ⌝ }
+    ensures { λ _. ⌜ ((a : ℕ) → marked (left marks) a ≡ (marked (passed marks) a || (anyOf (same v) (three s) && anyOf (same a) (three s)))) ⌝ }
 {
     if holds(s, v) {
         mark_three(marks, s);
@@ -152,7 +153,7 @@ pub fn mark_ring(marks: &mut [bool], t0: &[usize], t1: &[usize], t2: &[usize], v
     requires { ⌜ PanelColumnsAlike (meshOf [] [] [] (now t0) (now t1) (now t2)) ⌝ }
     requires { ⌜ IndicesBelow (length (now marks)) (meshOf [] [] [] (now t0) (now t1) (now t2)) ⌝ }
     requires { ⌜ v < length (now marks) ⌝ }
-    ensures { λ _. ⌜ ((a : ℕ) → marked (now (marks .exit)) a ≡ (marked (now (marks .entry)) a || ring (meshOf [] [] [] (now (t0 .entry)) (now (t1 .entry)) (now (t2 .entry))) (same v) a)) ⌝ }
+    ensures { λ _. ⌜ ((a : ℕ) → marked (left marks) a ≡ (marked (passed marks) a || ring (meshOf [] [] [] (passed t0) (passed t1) (passed t2)) (same v) a)) ⌝ }
 {
     let mut p = 0;
     while p < t0.len() {
@@ -164,7 +165,7 @@ pub fn mark_ring(marks: &mut [bool], t0: &[usize], t1: &[usize], t2: &[usize], v
 // How many of the first n nodes are marked.
 pub fn count_marks(marks: &[bool], n: usize) -> usize
     requires { ⌜ n ≤ length (now marks) ⌝ }
-    ensures { λ r. ⌜ r ≡ countBelow (marked (now (marks .entry))) n ⌝ }
+    ensures { λ r. ⌜ r ≡ countBelow (marked (passed marks)) n ⌝ }
 {
     let mut t: usize = 0;
     let mut i = 0;

@@ -13,9 +13,9 @@ use Rattle.panel_distance.specs.Distance.{lowest, highest, gap, triangleDistanc
 use Rattle.coupling.specs.Coupling.{isFar}
 use Rattle.pair.specs.declared.Panel.{Panel}
 use Rattle.pair.specs.declared.Source.{Source}
-use Rattle.nearness.specs.Which.{gapBetween, boxDistanceSquared, farBeyond}
+use Rattle.pair_far_test.specs.Which.{gapBetween, boxDistanceSquared, farBeyond}
 use Rattle.panel_points.specs.Points.{coordinates, triangle, rowsOf, pointsOf}
-use Rattle.nearness.proofs.Nearness.{beyond-is}
+use Rattle.pair_far_test.proofs.Nearness.{beyond-is}
 use Rattle.pair.specs.Pair.{panelNumbers, sourceNumbers, Known, KnownSource}
 
 -- the densities are three vectors of three numbers, so nothing is lost

@@ -91,11 +91,15 @@ fn pair_coupling(kind: QuadratureKind, s: Source, t: Panel) -> f64
     let bhi = t.hi;
     let target = three(b);
     let limit = ieee754::max(p.edge, t.edge);
-    let apart = nearness::box_distance_squared(alo, ahi, blo, bhi);
-    if nearness::is_far(three(a), target, limit, apart) {
+    let apart = pair_far_test::box_distance_squared(alo, ahi, blo, bhi);
+    if pair_far_test::is_far(three(a), target, limit, apart) {
         let points = s.points;
         let rows = s.rows;
-        return far_rule::far_coupling(quadrature_count(kind), points, points_by(rows, b, t.area));
+        return pair_far_rule::far_coupling(
+            quadrature_count(kind),
+            points,
+            points_by(rows, b, t.area),
+        );
     }
     let uniform = s.uniform;
     triangle_geometric_coupling_exact_fixed(uniform, target, COUPLING_NEAR_SUBDIVISION_DEPTH)

@@ -8,10 +8,12 @@ use native.Mathlib.Omega.{arith}
 use borrow.Author.Tests.{ltb-false, le-ltb, eq-eqb, ne-eqb, eqb-true, not-false}
 use lib.Dec.{ltb, eqb}
 use lib.ListN.{length, getD}
-use Rattle.mesh.specs.Refusal.{check, first, outputLength, none-applies, first-stopped, first-passed}
+use Rattle.refusal.specs.Numbers.{outputLength}
+use Rattle.refusal.specs.Checks.{check, first}
+use Rattle.refusal.proofs.Checks.{none-applies, first-stopped, first-passed}
 use Rattle.mesh.specs.Conditions.{WithinLimits}
 use Rattle.mesh.specs.Mesh.{nnode, ntri, passesLimits, someMissesNode, someZeroArea}
-use Rattle.mesh.proofs.Refusals.{or-off}
+use Rattle.refusal.proofs.Tests.{or-off}
 use Rattle.mesh.proofs.Refusals.{limits-off as mesh-limits}
 use Rattle.panel_file.specs.Conditions.{Marked, LengthDue, ColumnsDue}
 use Rattle.panel_file.proofs.Numbers.{bound}

@@ -6,9 +6,11 @@ use Prim.Native.Nat.{ℕ, _<_}
 use native.Mathlib.Omega.{arith}
 use lib.ListN.{getD}
 use lib.Ieee.{nan}
-use Rattle.mesh.specs.Filling.{tabulate, tabulate-length, tabulate-get}
+use Rattle.lists.specs.Filling.{tabulate}
+use Rattle.lists.proofs.Filling.{tabulate-length, tabulate-get}
 use Rattle.mesh.specs.Mesh.{node, nnode, ntri, triangleIndices, missesNode}
-use Rattle.mesh.specs.Counting.{someBelow, some-at, none-below}
+use Rattle.lists.specs.Counting.{someBelow}
+use Rattle.lists.proofs.Counting.{some-at, none-below}
 use Rattle.mesh.specs.Conditions.{Below}
 use Rattle.panel_file.specs.PanelFile.{nodeCount, panelCount, coordinate, index, decode, IndicesBelow}
 

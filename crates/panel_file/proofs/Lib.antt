@@ -4,3 +4,4 @@ pub mod Accepted
 pub mod Refusals
 pub mod Fields
 pub mod RoundTrip
+pub mod Examples

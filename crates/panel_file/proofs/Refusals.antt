@@ -5,11 +5,14 @@ use mathlib.Core.Logic.{_↔_}
 use mathlib.Core.List.{List, [], _∷_, _++_}
 use Prim.Native.Nat.{ℕ}
 use lib.Dec.{T}
-use Rattle.mesh.specs.Refusal.{Check, check, first, Clear, lacks, none-applies, applies-first, outputLength}
+use Rattle.refusal.specs.Numbers.{outputLength}
+use Rattle.refusal.specs.Checks.{Check, check, first, Clear, lacks}
+use Rattle.refusal.proofs.Checks.{none-applies, applies-first}
 use Rattle.mesh.specs.Conditions.{Accepted}
-use Rattle.mesh.specs.Filling.{tabulate-length}
+use Rattle.lists.proofs.Filling.{tabulate-length}
 use Rattle.mesh.specs.Mesh.{someMissesNode, someZeroArea, passesLimits}
-use Rattle.mesh.proofs.Refusals.{on, missing-off, missing-on, area-off, area-on}
+use Rattle.refusal.proofs.Tests.{on}
+use Rattle.mesh.proofs.Refusals.{missing-off, missing-on, area-off, area-on}
 use Rattle.panel_file.specs.PanelFile.{nodeCount, panelCount, coordinate, index, decode, marksDiffer, lengthDiffers, fileChecks, fileRefusal, Lengths, outputsDiffer, readRefusal}
 use Rattle.panel_file.specs.Conditions.{AcceptedFile, FileNumbered, FileTestNumbered, ReadNumbered}
 use Rattle.panel_file.proofs.Decoded.{nodes, panels}

@@ -12,11 +12,12 @@ use lib.Seq.{drop-append-add, drop-cons, drop-drop, take-add, take-all, ext-getD
 use lib.Ieee.{Float, nan, binary64, fits, toBits}
 use lib.Ieee.Bits.{ofBits-toBits, toBits-lt, toBits-ofBits, nanBits-is}
 use Rattle.binary64.specs.Binary64.{bits, at}
-use Rattle.mesh.specs.Filling.{tabulate, tabulate-length, tabulate-get}
+use Rattle.lists.specs.Filling.{tabulate}
+use Rattle.lists.proofs.Filling.{tabulate-length, tabulate-get}
 use Rattle.mesh.specs.Mesh.{Mesh, meshOf, nnode, ntri}
 use Rattle.mesh.specs.Conditions.{Accepted}
 use Rattle.panel_file.specs.LittleEndian.{littleEndian, threeFields, rowsFrom}
-use Rattle.panel_file.specs.PanelFile.{header, version, lengthDue, coordinatePlace, indexPlace, nodeCount, panelCount, coordinate, index, decode, encodeHeader, encodeNode, encodePanel, encode, Held, NoNan, Bytes, fileRefusal}
+use Rattle.panel_file.specs.PanelFile.{version, lengthDue, coordinatePlace, indexPlace, nodeCount, panelCount, coordinate, index, decode, encodeHeader, encodeNode, encodePanel, encode, Held, NoNan, Bytes, fileRefusal}
 use Rattle.panel_file.proofs.Numbers.{bound}
 use Rattle.panel_file.proofs.Decoded.{nodes, panels}
 use Rattle.panel_file.proofs.Accepted.{Clean, clean, marked, length-due}

@@ -1,4 +1,3 @@
 pub mod LittleEndian
 pub mod PanelFile
 pub mod Conditions
-pub mod Examples

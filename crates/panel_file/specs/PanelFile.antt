@@ -7,8 +7,9 @@ use lib.Dec.{T, ltb, eqb}
 use lib.ListN.{length, getD}
 use lib.Ieee.{Float, binary64, fits, nanBits, toBits}
 use Rattle.binary64.specs.Binary64.{bits, at}
-use Rattle.mesh.specs.Filling.{tabulate}
-use Rattle.mesh.specs.Refusal.{Check, check, first, after, fileMark, fileLength, tooLarge, missingNode, zeroArea, outputLength}
+use Rattle.lists.specs.Filling.{tabulate}
+use Rattle.refusal.specs.Numbers.{fileMark, fileLength, tooLarge, missingNode, zeroArea, outputLength}
+use Rattle.refusal.specs.Checks.{Check, check, first, after}
 use Rattle.mesh.specs.Mesh.{Mesh, meshOf, nnode, ntri, someMissesNode, someZeroArea, passesLimits}
 use Rattle.panel_file.specs.LittleEndian.{littleEndian, threeFields, rowsFrom}
 

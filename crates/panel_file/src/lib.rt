@@ -1,22 +1,17 @@
 // Document 01's panel file and its reader. The mesh is tested on the file's own bytes, so that
 // nothing is written before every test has passed.
 ghost use mathlib.Core.Path.{_≡_};
-ghost use mathlib.Core.Bool.{_||_};
 ghost use Prim.Native.Nat.{_+_, _^_, _≤_, _<_};
 ghost use lib.ListN.{length};
+ghost use Rattle.lists.specs.Lent.{passed, left};
 ghost use Rattle.binary64.specs.Binary64.{bits};
-ghost use Rattle.mesh.specs.Filling.{tabulate};
+ghost use Rattle.lists.specs.Filling.{tabulate};
 ghost use Rattle.mesh.specs.Mesh as Mesh;
-ghost use Rattle.mesh.specs.Mesh.{meshOf, maxNodes, maxPanels};
+ghost use Rattle.mesh.specs.Mesh.{maxNodes, maxPanels, passedMesh, writtenMesh};
 ghost use Rattle.mesh.specs.Conditions.{NoneMissing};
 ghost use Rattle.panel_file.specs.LittleEndian.{littleEndian};
 ghost use Rattle.panel_file.specs.PanelFile as Spec;
 ghost use Rattle.panel_file.specs.PanelFile.{Holds, IndicesBelow, Read};
-
-// The numbers of document 01's table for a file.
-pub const FILE_MARK: u32 = 14;
-
-pub const FILE_LENGTH: u32 = 15;
 
 // The bytes before the first node.
 pub const HEADER: usize = 9;
@@ -24,7 +19,7 @@ pub const HEADER: usize = 9;
 // The number in the bytes from `from` on, the lowest first: read from the highest down.
 pub fn little_endian(bytes: &[u8], from: usize, width: usize) -> u64
     requires { ⌜ (width ≤ 8) × (from + width ≤ length (now bytes)) ⌝ }
-    ensures { λ r. ⌜ r ≡ littleEndian width (now (bytes .entry)) from ⌝ }
+    ensures { λ r. ⌜ r ≡ littleEndian width (passed bytes) from ⌝ }
     ensures { λ r. ⌜ r < 256 ^ width ⌝ }
 {
     let mut n: u64 = 0;
@@ -49,7 +44,7 @@ pub fn from_bits(n: u64) -> f64
 
 pub fn node_count(bytes: &[u8]) -> usize
     requires { ⌜ 9 ≤ length (now bytes) ⌝ }
-    ensures { λ r. ⌜ r ≡ Spec.nodeCount (now (bytes .entry)) ⌝ }
+    ensures { λ r. ⌜ r ≡ Spec.nodeCount (passed bytes) ⌝ }
     ensures { λ r. ⌜ r < 2 ^ 16 ⌝ }
 {
     little_endian(bytes, 5, 2) as usize
@@ -57,7 +52,7 @@ pub fn node_count(bytes: &[u8]) -> usize
 
 pub fn panel_count(bytes: &[u8]) -> usize
     requires { ⌜ 9 ≤ length (now bytes) ⌝ }
-    ensures { λ r. ⌜ r ≡ Spec.panelCount (now (bytes .entry)) ⌝ }
+    ensures { λ r. ⌜ r ≡ Spec.panelCount (passed bytes) ⌝ }
     ensures { λ r. ⌜ r < 2 ^ 16 ⌝ }
 {
     little_endian(bytes, 7, 2) as usize
@@ -66,7 +61,7 @@ pub fn panel_count(bytes: &[u8]) -> usize
 // Coordinate 0, 1 or 2 of node k.
 fn coordinate(bytes: &[u8], axis: usize, k: usize) -> f64
     requires { ⌜ (k < 2 ^ 16) × (axis ≤ 2) × (Spec.coordinatePlace axis k + 8 ≤ length (now bytes)) ⌝ }
-    ensures { λ r. ⌜ r ≡ Spec.coordinate (now (bytes .entry)) axis k ⌝ }
+    ensures { λ r. ⌜ r ≡ Spec.coordinate (passed bytes) axis k ⌝ }
 {
     from_bits(little_endian(bytes, HEADER + (k * 24 + axis * 8), 8))
 }
@@ -74,7 +69,7 @@ fn coordinate(bytes: &[u8], axis: usize, k: usize) -> f64
 // Corner 0, 1 or 2 of panel i, in a file of n nodes.
 fn index(bytes: &[u8], n: usize, corner: usize, i: usize) -> usize
     requires { ⌜ (n < 2 ^ 16) × (i < 2 ^ 16) × (corner ≤ 2) × (Spec.indexPlace n corner i + 2 ≤ length (now bytes)) ⌝ }
-    ensures { λ r. ⌜ r ≡ Spec.index (now (bytes .entry)) n corner i ⌝ }
+    ensures { λ r. ⌜ r ≡ Spec.index (passed bytes) n corner i ⌝ }
     ensures { λ r. ⌜ r < 2 ^ 16 ⌝ }
 {
     little_endian(bytes, HEADER + (n * 24 + (i * 6 + corner * 2)), 2) as usize
@@ -83,7 +78,7 @@ fn index(bytes: &[u8], n: usize, corner: usize, i: usize) -> usize
 // The value of node k behind p panels.
 pub fn nodal_value(bytes: &[u8], n: usize, p: usize, k: usize) -> f64
     requires { ⌜ (n < 2 ^ 16) × (p < 2 ^ 16) × (k < n) × (Spec.valuePlace n p n ≤ length (now bytes)) ⌝ }
-    ensures { λ r. ⌜ r ≡ Spec.nodalValue (now (bytes .entry)) n p k ⌝ }
+    ensures { λ r. ⌜ r ≡ Spec.nodalValue (passed bytes) n p k ⌝ }
 {
     from_bits(little_endian(bytes, HEADER + (n * 24 + p * 6 + k * 8), 8))
 }
@@ -91,7 +86,7 @@ pub fn nodal_value(bytes: &[u8], n: usize, p: usize, k: usize) -> f64
 // The coordinates of node k.
 fn node(bytes: &[u8], n: usize, k: usize) -> [f64; 3]
     requires { ⌜ Holds n (now bytes) × (k < n) ⌝ }
-    ensures { λ r. ⌜ r ≡ Mesh.node (Spec.decode (now (bytes .entry))) k ⌝ }
+    ensures { λ r. ⌜ r ≡ Mesh.node (Spec.decode (passed bytes)) k ⌝ }
 {
     [
         coordinate(bytes, 0, k),
@@ -103,7 +98,7 @@ fn node(bytes: &[u8], n: usize, k: usize) -> [f64; 3]
 // The nodes of panel i.
 pub fn triangle_indices(bytes: &[u8], n: usize, i: usize) -> [usize; 3]
     requires { ⌜ Holds n (now bytes) × (i < Spec.panelCount (now bytes)) ⌝ }
-    ensures { λ r. ⌜ r ≡ Mesh.triangleIndices (Spec.decode (now (bytes .entry))) i ⌝ }
+    ensures { λ r. ⌜ r ≡ Mesh.triangleIndices (Spec.decode (passed bytes)) i ⌝ }
 {
     [
         index(bytes, n, 0, i),
@@ -115,7 +110,7 @@ pub fn triangle_indices(bytes: &[u8], n: usize, i: usize) -> [usize; 3]
 // The corners of panel i.
 pub fn triangle_nodes(bytes: &[u8], n: usize, i: usize) -> [[f64; 3]; 3]
     requires { ⌜ Holds n (now bytes) × (i < Spec.panelCount (now bytes)) × IndicesBelow (now bytes) n i ⌝ }
-    ensures { λ r. ⌜ r ≡ Mesh.triangleNodes (Spec.decode (now (bytes .entry))) i ⌝ }
+    ensures { λ r. ⌜ r ≡ Mesh.triangleNodes (Spec.decode (passed bytes)) i ⌝ }
 {
     let a = node(bytes, n, index(bytes, n, 0, i));
     let b = node(bytes, n, index(bytes, n, 1, i));
@@ -126,7 +121,7 @@ pub fn triangle_nodes(bytes: &[u8], n: usize, i: usize) -> [[f64; 3]; 3]
 // 3, over all panels of the file
 fn some_misses_node(bytes: &[u8], n: usize, p: usize) -> bool
     requires { ⌜ Holds n (now bytes) × (p ≡ Spec.panelCount (now bytes)) ⌝ }
-    ensures { λ r. ⌜ r ≡ Mesh.someMissesNode (Spec.decode (now (bytes .entry))) ⌝ }
+    ensures { λ r. ⌜ r ≡ Mesh.someMissesNode (Spec.decode (passed bytes)) ⌝ }
 {
     let mut i = 0;
     while i < p {
@@ -141,7 +136,7 @@ fn some_misses_node(bytes: &[u8], n: usize, p: usize) -> bool
 // 4, over all panels of the file
 fn some_zero_area(bytes: &[u8], n: usize, p: usize) -> bool
     requires { ⌜ Holds n (now bytes) × (p ≡ Spec.panelCount (now bytes)) × NoneMissing (Spec.decode (now bytes)) ⌝ }
-    ensures { λ r. ⌜ r ≡ Mesh.someZeroArea (Spec.decode (now (bytes .entry))) ⌝ }
+    ensures { λ r. ⌜ r ≡ Mesh.someZeroArea (Spec.decode (passed bytes)) ⌝ }
 {
     let mut i = 0;
     while i < p {
@@ -155,7 +150,7 @@ fn some_zero_area(bytes: &[u8], n: usize, p: usize) -> bool
 
 // 14
 fn marks_differ(bytes: &[u8]) -> bool
-    ensures { λ r. ⌜ r ≡ Spec.marksDiffer (now (bytes .entry)) ⌝ }
+    ensures { λ r. ⌜ r ≡ Spec.marksDiffer (passed bytes) ⌝ }
 {
     if bytes.len() < HEADER {
         return true;
@@ -176,24 +171,24 @@ fn length_due(extra: usize, n: usize, p: usize) -> usize
 // accepted.
 pub fn file_refusal(nodes: usize, panels: usize, extra: usize, bytes: &[u8]) -> u32
     requires { ⌜ extra < 2 ^ 16 ⌝ }
-    ensures { λ r. ⌜ r ≡ Spec.fileRefusal nodes panels extra (now (bytes .entry)) ⌝ }
+    ensures { λ r. ⌜ r ≡ Spec.fileRefusal nodes panels extra (passed bytes) ⌝ }
 {
     if marks_differ(bytes) {
-        return FILE_MARK;
+        return refusal::FILE_MARK;
     }
     let n = node_count(bytes);
     let p = panel_count(bytes);
     if mesh::passes_limits(nodes, panels, n, p) {
-        return mesh::TOO_LARGE;
+        return refusal::TOO_LARGE;
     }
     if bytes.len() != length_due(extra, n, p) {
-        return FILE_LENGTH;
+        return refusal::FILE_LENGTH;
     }
     if some_misses_node(bytes, n, p) {
-        return mesh::MISSING_NODE;
+        return refusal::MISSING_NODE;
     }
     if some_zero_area(bytes, n, p) {
-        return mesh::ZERO_AREA;
+        return refusal::ZERO_AREA;
     }
     0
 }
@@ -208,7 +203,7 @@ fn columns_differ(n: usize, a: usize, b: usize, c: usize) -> bool
 // Coordinate 0, 1 or 2 of every node.
 fn fill_coordinates(bytes: &[u8], axis: usize, out: &mut [f64])
     requires { ⌜ Holds (length (now out)) (now bytes) × (axis ≤ 2) ⌝ }
-    ensures { λ _. ⌜ now (out .exit) ≡ tabulate (Spec.nodeCount (now (bytes .entry))) (Spec.coordinate (now (bytes .entry)) axis) ⌝ }
+    ensures { λ _. ⌜ left out ≡ tabulate (Spec.nodeCount (passed bytes)) (Spec.coordinate (passed bytes) axis) ⌝ }
 {
     let mut k = 0;
     while k < out.len() {
@@ -220,7 +215,7 @@ fn fill_coordinates(bytes: &[u8], axis: usize, out: &mut [f64])
 // Corner 0, 1 or 2 of every panel, in a file of n nodes.
 fn fill_indices(bytes: &[u8], n: usize, corner: usize, out: &mut [usize])
     requires { ⌜ Holds n (now bytes) × (corner ≤ 2) × (length (now out) ≡ Spec.panelCount (now bytes)) ⌝ }
-    ensures { λ _. ⌜ now (out .exit) ≡ tabulate (Spec.panelCount (now (bytes .entry))) (Spec.index (now (bytes .entry)) (Spec.nodeCount (now (bytes .entry))) corner) ⌝ }
+    ensures { λ _. ⌜ left out ≡ tabulate (Spec.panelCount (passed bytes)) (Spec.index (passed bytes) (Spec.nodeCount (passed bytes)) corner) ⌝ }
 {
     let mut i = 0;
     while i < out.len() {
@@ -241,7 +236,7 @@ fn read_refusal(
     t1: usize,
     t2: usize,
 ) -> u32
-    ensures { λ r. ⌜ r ≡ Spec.readRefusal nodes panels (now (bytes .entry)) (Spec.lengths x y z t0 t1 t2) ⌝ }
+    ensures { λ r. ⌜ r ≡ Spec.readRefusal nodes panels (passed bytes) (Spec.lengths x y z t0 t1 t2) ⌝ }
 {
     let refusal = file_refusal(nodes, panels, 0, bytes);
     if refusal != 0 {
@@ -250,7 +245,7 @@ fn read_refusal(
     let n = columns_differ(node_count(bytes), x, y, z);
     let p = columns_differ(panel_count(bytes), t0, t1, t2);
     if n | p {
-        return mesh::OUTPUT_LENGTH;
+        return refusal::OUTPUT_LENGTH;
     }
     0
 }
@@ -267,7 +262,7 @@ pub fn read_panel_file_within(
     t1: &mut [usize],
     t2: &mut [usize],
 ) -> u32
-    ensures { λ r. ⌜ Read nodes panels (now (bytes .entry)) (meshOf (now (x .entry)) (now (y .entry)) (now (z .entry)) (now (t0 .entry)) (now (t1 .entry)) (now (t2 .entry))) r (meshOf (now (x .exit)) (now (y .exit)) (now (z .exit)) (now (t0 .exit)) (now (t1 .exit)) (now (t2 .exit))) ⌝ }
+    ensures { λ r. ⌜ Read nodes panels (passed bytes) (passedMesh x y z t0 t1 t2) r (writtenMesh x y z t0 t1 t2) ⌝ }
 {
     let refusal = read_refusal(
         nodes,
@@ -303,7 +298,7 @@ pub fn read_panel_file(
     t1: &mut [usize],
     t2: &mut [usize],
 ) -> u32
-    ensures { λ r. ⌜ Read maxNodes maxPanels (now (bytes .entry)) (meshOf (now (x .entry)) (now (y .entry)) (now (z .entry)) (now (t0 .entry)) (now (t1 .entry)) (now (t2 .entry))) r (meshOf (now (x .exit)) (now (y .exit)) (now (z .exit)) (now (t0 .exit)) (now (t1 .exit)) (now (t2 .exit))) ⌝ }
+    ensures { λ r. ⌜ Read maxNodes maxPanels (passed bytes) (passedMesh x y z t0 t1 t2) r (writtenMesh x y z t0 t1 t2) ⌝ }
 {
     read_panel_file_within(
         mesh::MAX_NODES,

@@ -13,7 +13,7 @@ use Rattle.tri.specs.Mapping.{mapPoint}
 use Rattle.tri.specs.Quadrature.{quadratureRow, quadratureCount}
 use Rattle.tri.specs.declared.quadrature.QuadratureKind.{QuadratureKind}
 use Rattle.tri.proofs.Counts.{count-between}
-use Rattle.panel_points.specs.Points.{triangle, seven, rest, column, rowsOf, mixed, along, weights, pointsBy, pointsOf, sumTo}
+use Rattle.panel_points.specs.Points.{triangle, seven, rest, column, rowsOf, mixed, along, weights, pointsBy, pointsOf}
 
 -- ---- seven places
 seven-length : (g : ℕ → Float) (k : ℕ) → length (seven g k) ≡ 7
@@ -61,9 +61,3 @@ module _ (kind : QuadratureKind) where
       → at (pointsOf kind v a .x) k ∷ at (pointsOf kind v a .y) k ∷ at (pointsOf kind v a .z) k ∷ [] ≡ mapPoint (triangle v) (at (quadratureRow kind k) 1) (at (quadratureRow kind k) 2)
   unfolding pointsBy mapPoint triangle
   point-at v a k h = rw (along-at (at v 0) (at v 3) (at v 6) k h, along-at (at v 1) (at v 4) (at v 7) k h, along-at (at v 2) (at v 5) (at v 8) k h)
-
--- ---- sums
-pub sum-same : (g h : ℕ → Float) (k : ℕ) → ((j : ℕ) → j < k → g j ≡ h j) → sumTo g k ≡ sumTo h k
-unfolding sumTo
-sum-same g h zero all = refl
-sum-same g h (suc k) all = rw (sum-same g h k (λ j l. all j (omega arith)), all k (omega arith))

@@ -1,8 +1,6 @@
--- The C interface's `coordinates`, nine numbers of three vectors; the rest is inner form: the rows of a rule and its points on a panel, in seven places for any rule, and sums over indices. Definitions, with the equations of those that recur.
-use mathlib.Core.Path.{_≡_}
-use Prim.Native.Nat.{ℕ, zero, suc, _+_}
+-- The C interface's `coordinates` and `triangle`, three vectors as nine numbers and back; the rest is inner form: the rows of a rule and its points on a panel, in seven places for any rule. Definitions only.
+use Prim.Native.Nat.{ℕ, zero, suc}
 use mathlib.Core.List.{List, [], _∷_}
-use native.Mathlib.Numerals.{add-one}
 use lib.ListN.{set}
 use lib.Ieee.{Float}
 use Rattle.binary64.specs.Binary64.{_⊕_, _⊖_, _⊗_, at, plusZero, one}
@@ -28,10 +26,6 @@ triangle v = (at v 0 ∷ at v 1 ∷ at v 2 ∷ []) ∷ (at v 3 ∷ at v 4 ∷ at
 unfoldable pub seven : (ℕ → Float) → ℕ → List Float
 seven g zero = plusZero ∷ plusZero ∷ plusZero ∷ plusZero ∷ plusZero ∷ plusZero ∷ plusZero ∷ []
 seven g (suc k) = set (seven g k) k (g k)
-
-pub seven-more : (g : ℕ → Float) (k : ℕ) → seven g (k + 1) ≡ set (seven g k) k (g k)
-unfolding seven
-seven-more g k = rw add-one
 
 -- ---- the rows of a rule
 -- the first corner's share of a point
@@ -77,13 +71,3 @@ pointsBy rows v area = record {
 
 abbrev pub pointsOf : QuadratureKind → List Float → Float → Points
 pointsOf kind = pointsBy (rowsOf kind)
-
--- ---- the sums
--- g of each index below k, added in order to +0
-unfoldable pub sumTo : (ℕ → Float) → ℕ → Float
-sumTo g zero = plusZero
-sumTo g (suc k) = sumTo g k ⊕ g k
-
-pub sum-more : (g : ℕ → Float) (k : ℕ) → sumTo g (k + 1) ≡ sumTo g k ⊕ g k
-unfolding sumTo
-sum-more g k = rw add-one

@@ -4,6 +4,7 @@ use tri::quadrature::quadrature_count;
 use tri::quadrature::quadrature_row;
 ghost use mathlib.Core.Path.{_≡_};
 ghost use Prim.Native.Nat.{_≤_};
+ghost use Rattle.lists.specs.Sums.{sumTo};
 ghost use Rattle.binary64.specs.Binary64.{at, _⊗_};
 ghost use Rattle.panel_points.specs.Points as Spec;
 
@@ -114,7 +115,7 @@ pub fn points_by(rows: Rows, v: [f64; 9], area: f64) -> Points
 // The sum of w[j] * held[j].
 pub fn weighted(count: usize, w: [f64; 7], held: [f64; 7]) -> f64
     requires { ⌜ count ≤ 7 ⌝ }
-    ensures { λ r. ⌜ r ≡ Spec.sumTo (λ j. at w j ⊗ at held j) count ⌝ }
+    ensures { λ r. ⌜ r ≡ sumTo (λ j. at w j ⊗ at held j) count ⌝ }
 {
     let mut out = 0.0;
     for j in 0..count {

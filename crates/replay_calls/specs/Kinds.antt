@@ -20,7 +20,7 @@ use Rattle.coupling.specs.Coupling as Coupling
 use Rattle.panel_distance.specs.Bisection as Bisection
 use Rattle.coupling.specs.Block as Block
 use Rattle.coupling.specs.Calls as Calls
-use Rattle.coupling.specs.declared.calls.Answer.{Answer}
+use Rattle.refusal.specs.declared.Answer.{Answer}
 use Rattle.coupling.specs.declared.calls.BlockAnswer.{BlockAnswer}
 use Rattle.potential.specs.declared.UniformTriangle.{UniformTriangle}
 use Rattle.replay_words.specs.Words.{vectorAt, triangleAt, nineAt, ruleOf, sameWord, sameNumber, sameVector, sameTriangle, sameNine, sameValue, sameFlag}

@@ -1,5 +1,6 @@
 // Calls with a rule, a panel's record, and its halves.
 ghost use mathlib.Core.Path.{_≡_};
+ghost use Rattle.lists.specs.Lent.{passed};
 ghost use Rattle.replay_calls.specs.Kinds as Spec;
 use potential::UniformTriangle;
 use replay_words::words::rule_of;
@@ -12,7 +13,7 @@ use replay_words::words::same_word;
 use replay_words::words::triangle;
 
 pub fn geometric_coupling(f: &[f64; 2048], w: &[u64; 2048]) -> bool
-    ensures { λ r. ⌜ r ≡ Spec.geometricCoupling (now (f .entry)) (now (w .entry)) ⌝ }
+    ensures { λ r. ⌜ r ≡ Spec.geometricCoupling (passed f) (passed w) ⌝ }
 {
     let rule = rule_of(w[0]);
     let a = coupling::calls::triangle_geometric_coupling(rule, triangle(f, 1), triangle(f, 10));
@@ -20,7 +21,7 @@ pub fn geometric_coupling(f: &[f64; 2048], w: &[u64; 2048]) -> bool
 }
 
 pub fn geometric_coupling_regular(f: &[f64; 2048], w: &[u64; 2048]) -> bool
-    ensures { λ r. ⌜ r ≡ Spec.geometricCouplingRegular (now (f .entry)) (now (w .entry)) ⌝ }
+    ensures { λ r. ⌜ r ≡ Spec.geometricCouplingRegular (passed f) (passed w) ⌝ }
 {
     let rule = rule_of(w[0]);
     let a = coupling::calls::triangle_geometric_coupling_regular(
@@ -32,7 +33,7 @@ pub fn geometric_coupling_regular(f: &[f64; 2048], w: &[u64; 2048]) -> bool
 }
 
 pub fn mutual_inductance_block(f: &[f64; 2048], w: &[u64; 2048]) -> bool
-    ensures { λ r. ⌜ r ≡ Spec.mutualInductanceBlock (now (f .entry)) (now (w .entry)) ⌝ }
+    ensures { λ r. ⌜ r ≡ Spec.mutualInductanceBlock (passed f) (passed w) ⌝ }
 {
     let rule = rule_of(w[0]);
     let a = coupling::calls::triangle_basis_mutual_inductance_block(
@@ -47,7 +48,7 @@ pub fn mutual_inductance_block(f: &[f64; 2048], w: &[u64; 2048]) -> bool
 }
 
 pub fn mutual_inductance(f: &[f64; 2048], w: &[u64; 2048]) -> bool
-    ensures { λ r. ⌜ r ≡ Spec.mutualInductance (now (f .entry)) (now (w .entry)) ⌝ }
+    ensures { λ r. ⌜ r ≡ Spec.mutualInductance (passed f) (passed w) ⌝ }
 {
     let rule = rule_of(w[0]);
     let i = w[10] as usize;
@@ -63,7 +64,7 @@ pub fn mutual_inductance(f: &[f64; 2048], w: &[u64; 2048]) -> bool
 }
 
 pub fn bisect(f: &[f64; 2048], w: &[u64; 2048]) -> bool
-    ensures { λ r. ⌜ r ≡ Spec.bisect (now (f .entry)) (now (w .entry)) ⌝ }
+    ensures { λ r. ⌜ r ≡ Spec.bisect (passed f) (passed w) ⌝ }
 {
     let h = panel_distance::bisection::longest_edge_bisection(triangle(f, 0));
     let a = same_triangle(h[0], w, 9);
@@ -72,7 +73,7 @@ pub fn bisect(f: &[f64; 2048], w: &[u64; 2048]) -> bool
 }
 
 pub fn panel_record(f: &[f64; 2048], w: &[u64; 2048]) -> bool
-    ensures { λ r. ⌜ r ≡ Spec.panelRecord (now (f .entry)) (now (w .entry)) ⌝ }
+    ensures { λ r. ⌜ r ≡ Spec.panelRecord (passed f) (passed w) ⌝ }
 {
     let p = UniformTriangle::new(triangle(f, 0));
     let nodes = p.nodes;
@@ -91,7 +92,7 @@ pub fn panel_record(f: &[f64; 2048], w: &[u64; 2048]) -> bool
 
 // By the kind's number.
 pub fn agree(kind: u64, f: &[f64; 2048], w: &[u64; 2048]) -> bool
-    ensures { λ r. ⌜ r ≡ Spec.callsAgree kind (now (f .entry)) (now (w .entry)) ⌝ }
+    ensures { λ r. ⌜ r ≡ Spec.callsAgree kind (passed f) (passed w) ⌝ }
 {
     if kind == 17 {
         return geometric_coupling(f, w);

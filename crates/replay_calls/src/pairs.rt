@@ -1,5 +1,6 @@
 // Pairs of panels, of a point and a panel, and of segments.
 ghost use mathlib.Core.Path.{_≡_};
+ghost use Rattle.lists.specs.Lent.{passed};
 ghost use Rattle.replay_calls.specs.Kinds as Spec;
 use replay_words::words::nine;
 use replay_words::words::same_flag;
@@ -8,7 +9,7 @@ use replay_words::words::triangle;
 use replay_words::words::vector;
 
 pub fn identical(f: &[f64; 2048], w: &[u64; 2048]) -> bool
-    ensures { λ r. ⌜ r ≡ Spec.identical (now (f .entry)) (now (w .entry)) ⌝ }
+    ensures { λ r. ⌜ r ≡ Spec.identical (passed f) (passed w) ⌝ }
 {
     same_flag(
         boundary_element::identity::triangles_identical(triangle(f, 0), triangle(f, 9)),
@@ -18,7 +19,7 @@ pub fn identical(f: &[f64; 2048], w: &[u64; 2048]) -> bool
 }
 
 pub fn box_distance(f: &[f64; 2048], w: &[u64; 2048]) -> bool
-    ensures { λ r. ⌜ r ≡ Spec.boxDistance (now (f .entry)) (now (w .entry)) ⌝ }
+    ensures { λ r. ⌜ r ≡ Spec.boxDistance (passed f) (passed w) ⌝ }
 {
     same_number(
         panel_distance::distance::triangle_aabb_distance_squared(triangle(f, 0), triangle(f, 9)),
@@ -28,7 +29,7 @@ pub fn box_distance(f: &[f64; 2048], w: &[u64; 2048]) -> bool
 }
 
 pub fn panel_distance(f: &[f64; 2048], w: &[u64; 2048]) -> bool
-    ensures { λ r. ⌜ r ≡ Spec.panelDistance (now (f .entry)) (now (w .entry)) ⌝ }
+    ensures { λ r. ⌜ r ≡ Spec.panelDistance (passed f) (passed w) ⌝ }
 {
     same_number(
         panel_distance::distance::triangle_distance_squared(triangle(f, 0), triangle(f, 9)),
@@ -38,7 +39,7 @@ pub fn panel_distance(f: &[f64; 2048], w: &[u64; 2048]) -> bool
 }
 
 pub fn longest_edge(f: &[f64; 2048], w: &[u64; 2048]) -> bool
-    ensures { λ r. ⌜ r ≡ Spec.longestEdge (now (f .entry)) (now (w .entry)) ⌝ }
+    ensures { λ r. ⌜ r ≡ Spec.longestEdge (passed f) (passed w) ⌝ }
 {
     same_number(
         panel_distance::distance::triangle_max_edge_squared(triangle(f, 0)),
@@ -48,7 +49,7 @@ pub fn longest_edge(f: &[f64; 2048], w: &[u64; 2048]) -> bool
 }
 
 pub fn is_far(f: &[f64; 2048], w: &[u64; 2048]) -> bool
-    ensures { λ r. ⌜ r ≡ Spec.isFar (now (f .entry)) (now (w .entry)) ⌝ }
+    ensures { λ r. ⌜ r ≡ Spec.isFar (passed f) (passed w) ⌝ }
 {
     same_flag(
         coupling::coupling::is_far(triangle(f, 0), triangle(f, 9)),
@@ -58,7 +59,7 @@ pub fn is_far(f: &[f64; 2048], w: &[u64; 2048]) -> bool
 }
 
 pub fn point_distance(f: &[f64; 2048], w: &[u64; 2048]) -> bool
-    ensures { λ r. ⌜ r ≡ Spec.pointDistance (now (f .entry)) (now (w .entry)) ⌝ }
+    ensures { λ r. ⌜ r ≡ Spec.pointDistance (passed f) (passed w) ⌝ }
 {
     same_number(
         panel_distance::distance::point_triangle_distance_squared(vector(f, 0), triangle(f, 3)),
@@ -68,7 +69,7 @@ pub fn point_distance(f: &[f64; 2048], w: &[u64; 2048]) -> bool
 }
 
 pub fn segment_distance(f: &[f64; 2048], w: &[u64; 2048]) -> bool
-    ensures { λ r. ⌜ r ≡ Spec.segmentDistance (now (f .entry)) (now (w .entry)) ⌝ }
+    ensures { λ r. ⌜ r ≡ Spec.segmentDistance (passed f) (passed w) ⌝ }
 {
     same_number(
         panel_distance::distance::segment_distance_squared(
@@ -83,7 +84,7 @@ pub fn segment_distance(f: &[f64; 2048], w: &[u64; 2048]) -> bool
 }
 
 pub fn block_energy(f: &[f64; 2048], w: &[u64; 2048]) -> bool
-    ensures { λ r. ⌜ r ≡ Spec.blockEnergy (now (f .entry)) (now (w .entry)) ⌝ }
+    ensures { λ r. ⌜ r ≡ Spec.blockEnergy (passed f) (passed w) ⌝ }
 {
     same_number(
         coupling::block::triangle_inductance_from_potential_vectors(
@@ -98,7 +99,7 @@ pub fn block_energy(f: &[f64; 2048], w: &[u64; 2048]) -> bool
 
 // By the kind's number.
 pub fn agree(kind: u64, f: &[f64; 2048], w: &[u64; 2048]) -> bool
-    ensures { λ r. ⌜ r ≡ Spec.pairsAgree kind (now (f .entry)) (now (w .entry)) ⌝ }
+    ensures { λ r. ⌜ r ≡ Spec.pairsAgree kind (passed f) (passed w) ⌝ }
 {
     if kind == 41 {
         return identical(f, w);

@@ -1,5 +1,6 @@
 // Panels.
 ghost use mathlib.Core.Path.{_≡_};
+ghost use Rattle.lists.specs.Lent.{passed};
 ghost use Rattle.replay_calls.specs.Kinds as Spec;
 use boundary_element::current_density;
 use potential::UniformTriangle;
@@ -11,7 +12,7 @@ use replay_words::words::triangle;
 use replay_words::words::vector;
 
 pub fn closest_point(f: &[f64; 2048], w: &[u64; 2048]) -> bool
-    ensures { λ r. ⌜ r ≡ Spec.closestPoint (now (f .entry)) (now (w .entry)) ⌝ }
+    ensures { λ r. ⌜ r ≡ Spec.closestPoint (passed f) (passed w) ⌝ }
 {
     same_vector(
         tri::tri3::closest_point(vector(f, 0), triangle(f, 3)),
@@ -21,19 +22,19 @@ pub fn closest_point(f: &[f64; 2048], w: &[u64; 2048]) -> bool
 }
 
 pub fn area(f: &[f64; 2048], w: &[u64; 2048]) -> bool
-    ensures { λ r. ⌜ r ≡ Spec.area (now (f .entry)) (now (w .entry)) ⌝ }
+    ensures { λ r. ⌜ r ≡ Spec.area (passed f) (passed w) ⌝ }
 {
     same_number(tri::mapping::area(triangle(f, 0)), w, 9)
 }
 
 pub fn quality(f: &[f64; 2048], w: &[u64; 2048]) -> bool
-    ensures { λ r. ⌜ r ≡ Spec.quality (now (f .entry)) (now (w .entry)) ⌝ }
+    ensures { λ r. ⌜ r ≡ Spec.quality (passed f) (passed w) ⌝ }
 {
     same_number(mesh::triangle_quality(triangle(f, 0)), w, 9)
 }
 
 pub fn potential(f: &[f64; 2048], w: &[u64; 2048]) -> bool
-    ensures { λ r. ⌜ r ≡ Spec.potential (now (f .entry)) (now (w .entry)) ⌝ }
+    ensures { λ r. ⌜ r ≡ Spec.potential (passed f) (passed w) ⌝ }
 {
     same_number(
         UniformTriangle::new(triangle(f, 0)).scalar_potential(vector(f, 9)),
@@ -43,7 +44,7 @@ pub fn potential(f: &[f64; 2048], w: &[u64; 2048]) -> bool
 }
 
 pub fn gradient(f: &[f64; 2048], w: &[u64; 2048]) -> bool
-    ensures { λ r. ⌜ r ≡ Spec.gradient (now (f .entry)) (now (w .entry)) ⌝ }
+    ensures { λ r. ⌜ r ≡ Spec.gradient (passed f) (passed w) ⌝ }
 {
     same_vector(
         UniformTriangle::new(triangle(f, 0)).scalar_potential_gradient(vector(f, 9)),
@@ -53,7 +54,7 @@ pub fn gradient(f: &[f64; 2048], w: &[u64; 2048]) -> bool
 }
 
 pub fn contact(f: &[f64; 2048], w: &[u64; 2048]) -> bool
-    ensures { λ r. ⌜ r ≡ Spec.contact (now (f .entry)) (now (w .entry)) ⌝ }
+    ensures { λ r. ⌜ r ≡ Spec.contact (passed f) (passed w) ⌝ }
 {
     same_flag(
         UniformTriangle::new(triangle(f, 0)).contains_on_surface(vector(f, 9)),
@@ -63,7 +64,7 @@ pub fn contact(f: &[f64; 2048], w: &[u64; 2048]) -> bool
 }
 
 pub fn basis_densities(f: &[f64; 2048], w: &[u64; 2048]) -> bool
-    ensures { λ r. ⌜ r ≡ Spec.basisDensities (now (f .entry)) (now (w .entry)) ⌝ }
+    ensures { λ r. ⌜ r ≡ Spec.basisDensities (passed f) (passed w) ⌝ }
 {
     same_triangle(
         current_density::triangle_basis_current_densities(triangle(f, 0)),
@@ -73,7 +74,7 @@ pub fn basis_densities(f: &[f64; 2048], w: &[u64; 2048]) -> bool
 }
 
 pub fn panel_density(f: &[f64; 2048], w: &[u64; 2048]) -> bool
-    ensures { λ r. ⌜ r ≡ Spec.panelDensity (now (f .entry)) (now (w .entry)) ⌝ }
+    ensures { λ r. ⌜ r ≡ Spec.panelDensity (passed f) (passed w) ⌝ }
 {
     same_vector(
         current_density::triangle_current_density(triangle(f, 0), vector(f, 9)),
@@ -83,20 +84,20 @@ pub fn panel_density(f: &[f64; 2048], w: &[u64; 2048]) -> bool
 }
 
 pub fn map_point(f: &[f64; 2048], w: &[u64; 2048]) -> bool
-    ensures { λ r. ⌜ r ≡ Spec.mapPoint (now (f .entry)) (now (w .entry)) ⌝ }
+    ensures { λ r. ⌜ r ≡ Spec.mapPoint (passed f) (passed w) ⌝ }
 {
     same_vector(tri::mapping::map_point(triangle(f, 0), f[9], f[10]), w, 11)
 }
 
 pub fn normal(f: &[f64; 2048], w: &[u64; 2048]) -> bool
-    ensures { λ r. ⌜ r ≡ Spec.normal (now (f .entry)) (now (w .entry)) ⌝ }
+    ensures { λ r. ⌜ r ≡ Spec.normal (passed f) (passed w) ⌝ }
 {
     same_vector(tri::mapping::normal(triangle(f, 0)), w, 9)
 }
 
 // By the kind's number.
 pub fn agree(kind: u64, f: &[f64; 2048], w: &[u64; 2048]) -> bool
-    ensures { λ r. ⌜ r ≡ Spec.panelsAgree kind (now (f .entry)) (now (w .entry)) ⌝ }
+    ensures { λ r. ⌜ r ≡ Spec.panelsAgree kind (passed f) (passed w) ⌝ }
 {
     if kind == 9 {
         return closest_point(f, w);

@@ -1,2 +1,3 @@
 pub mod Turns
 pub mod Unpacked
+pub mod Totals

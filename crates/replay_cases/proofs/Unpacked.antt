@@ -4,7 +4,8 @@ use mathlib.Core.List.{List}
 use Prim.Native.Nat.{ℕ, _+_, _≤_, _<_}
 use native.Mathlib.Omega.{arith}
 use lib.ListN.{length, set, length-set}
-use Rattle.mesh.specs.Filling.{tabulate, filled, fill-start, column-turn, column-end}
+use Rattle.lists.specs.Filling.{tabulate, filled}
+use Rattle.lists.proofs.Filling.{fill-start, column-turn, column-end}
 
 module _ {A : Type 0} where
   pub record Unpacked (g : ℕ → A) (l₀ l : List A) (i : ℕ) : Type 0 where

@@ -6,7 +6,7 @@ use lib.Dec.{ltb}
 use lib.ListN.{getD}
 use lib.Ieee.{Float}
 use Rattle.binary64.specs.Binary64.{bits}
-use Rattle.mesh.specs.Filling.{tabulate}
+use Rattle.lists.specs.Filling.{tabulate}
 use Rattle.panel_file.specs.LittleEndian.{littleEndian}
 use Rattle.replay_words.specs.Words.{sizeOf}
 

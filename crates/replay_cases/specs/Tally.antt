@@ -1,9 +1,8 @@
--- The replay: counts of cases, as words of 64 bits. Definitions, with the equation of the one that recurs.
+-- The replay: counts of cases, as words of 64 bits. Definitions only.
 use mathlib.Core.Path.{_≡_}
 use mathlib.Core.Bool.{Bool, true, false, cond}
 use mathlib.Core.List.{List}
 use Prim.Native.Nat.{ℕ, zero, suc, _+_, _%_, _^_, _<_}
-use native.Mathlib.Numerals.{add-one}
 use lib.ListN.{getD, set, replicate}
 
 -- no case of any kind
@@ -28,7 +27,3 @@ pub record Turn (agrees : ℕ → List ℕ → Bool) (cases differ : List ℕ) (
 unfoldable pub total : List ℕ → ℕ → ℕ
 total l zero = 0
 total l (suc n) = (total l n + getD l n 0) % 2 ^ 64
-
-pub total-more : (l : List ℕ) (n : ℕ) → total l (n + 1) ≡ (total l n + getD l n 0) % 2 ^ 64
-unfolding total
-total-more l n = rw add-one

@@ -2,6 +2,7 @@
 ghost use mathlib.Core.Path.{_≡_};
 ghost use Prim.Native.Nat.{_≤_};
 ghost use lib.ListN.{replicate};
+ghost use Rattle.lists.specs.Lent.{passed};
 ghost use Rattle.replay_cases.specs.Case as Spec;
 use crate::case;
 
@@ -37,7 +38,7 @@ fn none() -> Case
 
 // The case whose head this is; none if it has a kind or a size that no buffer here holds.
 fn behind(head: &[u8; 16]) -> Case
-    ensures { λ r. ⌜ r .kind ≡ Spec.kindOf (now (head .entry)) ⌝ }
+    ensures { λ r. ⌜ r .kind ≡ Spec.kindOf (passed head) ⌝ }
 {
     let all = &head[..];
     let kind = case::kind(all);

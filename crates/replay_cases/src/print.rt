@@ -2,6 +2,7 @@
 ghost use mathlib.Core.Path.{_≡_};
 ghost use Prim.Native.Nat.{_+_, _*_, _≤_, _<_};
 ghost use lib.ListN.{length};
+ghost use Rattle.lists.specs.Lent.{passed};
 ghost use Rattle.replay_cases.specs.Tally as Spec;
 
 // Each name has 18 bytes, and the one of kind k stands at its place.
@@ -22,7 +23,7 @@ fn line(names: &[u8], k: usize, cases: u64, differ: u64) -> u64
 // The lines of the kinds that have cases.
 fn lines(names: &[u8], cases: &[u64; 64], differ: &[u64; 64]) -> u64
     requires { ⌜ 1152 ≤ length (now names) ⌝ }
-    ensures { λ r. ⌜ r ≡ Spec.total (now (differ .entry)) 64 ⌝ }
+    ensures { λ r. ⌜ r ≡ Spec.total (passed differ) 64 ⌝ }
 {
     let mut sum = 0;
     let mut k = 0usize;
@@ -36,7 +37,7 @@ fn lines(names: &[u8], cases: &[u64; 64], differ: &[u64; 64]) -> u64
 
 // The same under the kinds' names.
 fn named_lines(cases: &[u64; 64], differ: &[u64; 64]) -> u64
-    ensures { λ r. ⌜ r ≡ Spec.total (now (differ .entry)) 64 ⌝ }
+    ensures { λ r. ⌜ r ≡ Spec.total (passed differ) 64 ⌝ }
 {
     lines(
         b"                  fma               sqrt              ln                asinh             atan2             dot3              cross3            norm3             closest_point     area              quality           record            potential         gradient          contact           bisect            coupling          block             entry             mesh_test         quadrature        densities         basis_densities   panel_density     matrix            energy2           energy1           flux              interaction       move              row_matrix        row_map           read_file         density_program   display                             point_distance    segment_distance  coupling_regular  block_energy      identical         map_point         normal            normalize3        add_scaled3       sub3              add3              scale3            min               max               clamp             abs               square_add        box_distance      panel_distance    longest_edge      is_far                                                                                                                        ",
@@ -47,7 +48,7 @@ fn named_lines(cases: &[u64; 64], differ: &[u64; 64]) -> u64
 
 // For each kind how many cases there are and how many differ; the last line is the sum.
 pub fn table(cases: &[u64; 64], differ: &[u64; 64]) -> u64
-    ensures { λ r. ⌜ r ≡ Spec.total (now (differ .entry)) 64 ⌝ }
+    ensures { λ r. ⌜ r ≡ Spec.total (passed differ) 64 ⌝ }
 {
     let sum = named_lines(cases, differ);
     io::print_decimal(1, sum);

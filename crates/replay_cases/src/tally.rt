@@ -1,6 +1,7 @@
 // How many cases of each kind there are, and how many differ.
 ghost use mathlib.Core.Path.{_≡_};
 ghost use Prim.Native.Nat.{_<_};
+ghost use Rattle.lists.specs.Lent.{passed, left};
 ghost use Rattle.replay_cases.specs.Tally as Spec;
 
 // No case of any kind.
@@ -13,7 +14,7 @@ pub fn none() -> [u64; 64]
 // One more of kind k.
 fn add_one(counts: &mut [u64; 64], k: usize)
     requires { ⌜ k < 64 ⌝ }
-    ensures { λ _. ⌜ now (counts .exit) ≡ Spec.counted (now (counts .entry)) k ⌝ }
+    ensures { λ _. ⌜ left counts ≡ Spec.counted (passed counts) k ⌝ }
 {
     let n = counts[k];
     counts[k] = std::num::wrapping_add_u64(n, 1);
@@ -22,8 +23,8 @@ fn add_one(counts: &mut [u64; 64], k: usize)
 // A case of kind k, which agrees or differs.
 pub fn count(cases: &mut [u64; 64], differ: &mut [u64; 64], k: usize, agrees: bool)
     requires { ⌜ k < 64 ⌝ }
-    ensures { λ _. ⌜ now (cases .exit) ≡ Spec.counted (now (cases .entry)) k ⌝ }
-    ensures { λ _. ⌜ now (differ .exit) ≡ Spec.judged agrees (now (differ .entry)) k ⌝ }
+    ensures { λ _. ⌜ left cases ≡ Spec.counted (passed cases) k ⌝ }
+    ensures { λ _. ⌜ left differ ≡ Spec.judged agrees (passed differ) k ⌝ }
 {
     add_one(cases, k);
     if agrees {

@@ -1,8 +1,6 @@
--- The replay: a mesh in a stored case: six columns one behind the other, each as its length and its elements. Definitions, with the equation of the one that recurs.
-use mathlib.Core.Path.{_≡_}
+-- The replay: a mesh in a stored case: six columns one behind the other, each as its length and its elements. Definitions only.
 use mathlib.Core.List.{List}
 use Prim.Native.Nat.{ℕ, zero, suc, _+_}
-use native.Mathlib.Numerals.{add-one}
 use lib.Ieee.{Float}
 use Rattle.mesh.specs.Mesh.{Mesh, meshOf}
 use Rattle.replay_words.specs.Words.{columnEnd, part}
@@ -11,10 +9,6 @@ use Rattle.replay_words.specs.Words.{columnEnd, part}
 unfoldable pub columnAt : List ℕ → ℕ → ℕ → ℕ
 columnAt w k zero = k
 columnAt w k (suc i) = columnEnd w (columnAt w k i)
-
-pub column-next : (w : List ℕ) (k i : ℕ) → columnAt w k (i + 1) ≡ columnEnd w (columnAt w k i)
-unfolding columnAt
-column-next w k i = rw add-one
 
 -- its elements, of the case's words as numbers or as places
 unfoldable pub column : {A : Type 0} → List A → List ℕ → ℕ → ℕ → List A

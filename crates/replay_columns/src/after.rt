@@ -2,6 +2,7 @@
 ghost use mathlib.Core.Path.{_≡_};
 ghost use Prim.Native.Nat.{_+_, _≤_};
 ghost use lib.ListN.{length};
+ghost use Rattle.lists.specs.Lent.{passed};
 ghost use Rattle.replay_columns.specs.After as Spec;
 use replay_words::buffers::kept;
 use replay_words::words::same_count;
@@ -20,7 +21,7 @@ fn kept_columns(
 ) -> bool
     requires { ⌜ k + length (now x) + length (now y) + length (now z) ≤ 2048 ⌝ }
     requires { ⌜ (length (now x) ≡ length (now x0)) × (length (now y) ≡ length (now y0)) × (length (now z) ≡ length (now z0)) ⌝ }
-    ensures { λ r. ⌜ r ≡ Spec.keptColumns refusal (now (x .entry)) (now (y .entry)) (now (z .entry)) (now (x0 .entry)) (now (y0 .entry)) (now (z0 .entry)) (now (w .entry)) k ⌝ }
+    ensures { λ r. ⌜ r ≡ Spec.keptColumns refusal (passed x) (passed y) (passed z) (passed x0) (passed y0) (passed z0) (passed w) k ⌝ }
 {
     let p = k + x.len();
     let q = p + y.len();
@@ -46,8 +47,9 @@ pub fn left_as_due(
     k: usize,
 ) -> bool
     requires { ⌜ k + 2 + length (now cells) + length (now x) + length (now y) + length (now z) ≤ 2048 ⌝ }
-    requires { ⌜ (length (now x) ≡ length (now x0)) × (length (now y) ≡ length (now y0)) × (length (now z) ≡ length (now z0)) × (length (now cells) ≡ length (now cells0)) ⌝ }
-    ensures { λ r. ⌜ r ≡ Spec.leftAsDue refusal count (now (x .entry)) (now (y .entry)) (now (z .entry)) (now (cells .entry)) (now (x0 .entry)) (now (y0 .entry)) (now (z0 .entry)) (now (cells0 .entry)) (now (w .entry)) k ⌝ }
+    requires { ⌜ Spec.AsLong (now x) (now y) (now z) (now cells) (now x0) (now y0) (now z0) (now cells0) ⌝ }
+    ensures { λ r. ⌜ r ≡ Spec.leftAsDue refusal count (passed x) (passed y) (passed z) (passed cells)
+        (passed x0) (passed y0) (passed z0) (passed cells0) (passed w) k ⌝ }
 {
     let p = k + 2 + cells.len();
     let a = same_count(refusal, count, w, k);

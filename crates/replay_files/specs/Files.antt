@@ -1,17 +1,22 @@
 -- The replay: what a case with a file's bytes compares: the reader's number and columns, and the bytes that the program `density` prints. Definitions only.
 use mathlib.Core.Bool.{Bool, false, cond, _&&_}
 use mathlib.Core.List.{List}
-use Prim.Native.Nat.{ℕ, _+_, _*_}
+use Prim.Native.Nat.{ℕ, _+_, _*_, _≤_}
 use lib.Dec.{eqb}
 use lib.ListN.{length}
 use lib.Ieee.{Float}
-use Rattle.mesh.specs.Refusal.{after}
+use Rattle.refusal.specs.Checks.{after}
 use Rattle.mesh.specs.Mesh.{meshOf, maxNodes, maxPanels}
 use Rattle.panel_file.specs.PanelFile.{decode, readRefusal, lengthsOf}
 use Rattle.density_text.specs.Text.{text}
 use Rattle.replay_words.specs.Words.{lengthAt, cutAt, part, sameWord}
 use Rattle.replay_words.specs.Bytes.{bytesEnd, sameBytes}
 use Rattle.replay_words.specs.Buffers.{lent, held, lentPlaces, heldPlaces}
+
+-- six columns of at most 64 elements, and a place of the case from which as many results stand in it
+abbrev pub Short : List Float → List Float → List Float → List ℕ → List ℕ → List ℕ → ℕ → Type 0
+Short x y z t0 t1 t2 k =
+    (length x ≤ 64) × (length y ≤ 64) × (length z ≤ 64) × (length t0 ≤ 64) × (length t1 ≤ 64) × (length t2 ≤ 64) × (k ≤ 80)
 
 -- three columns one behind the other, of numbers and of places
 unfoldable pub heldNodes : ℕ → List Float → List Float → List Float → List ℕ → ℕ → Bool

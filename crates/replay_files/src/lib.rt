@@ -2,6 +2,7 @@
 ghost use mathlib.Core.Path.{_≡_};
 ghost use Prim.Native.Nat.{_+_, _≤_};
 ghost use lib.ListN.{length};
+ghost use Rattle.lists.specs.Lent.{passed};
 ghost use Rattle.replay_files.specs.Files as Spec;
 use replay_words::buffers::held;
 use replay_words::buffers::held_places;
@@ -13,7 +14,7 @@ use replay_words::words::same_word;
 
 fn held_nodes(refusal: u32, x: &[f64], y: &[f64], z: &[f64], w: &[u64; 2048], k: usize) -> bool
     requires { ⌜ k + length (now x) + length (now y) + length (now z) ≤ 2048 ⌝ }
-    ensures { λ r. ⌜ r ≡ Spec.heldNodes refusal (now (x .entry)) (now (y .entry)) (now (z .entry)) (now (w .entry)) k ⌝ }
+    ensures { λ r. ⌜ r ≡ Spec.heldNodes refusal (passed x) (passed y) (passed z) (passed w) k ⌝ }
 {
     let p = k + x.len();
     let q = p + y.len();
@@ -32,7 +33,7 @@ fn held_panels(
     k: usize,
 ) -> bool
     requires { ⌜ k + length (now t0) + length (now t1) + length (now t2) ≤ 2048 ⌝ }
-    ensures { λ r. ⌜ r ≡ Spec.heldPanels refusal (now (t0 .entry)) (now (t1 .entry)) (now (t2 .entry)) (now (w .entry)) k ⌝ }
+    ensures { λ r. ⌜ r ≡ Spec.heldPanels refusal (passed t0) (passed t1) (passed t2) (passed w) k ⌝ }
 {
     let p = k + t0.len();
     let q = p + t1.len();
@@ -54,8 +55,8 @@ fn held_columns(
     w: &[u64; 2048],
     k: usize,
 ) -> bool
-    requires { ⌜ (length (now x) ≤ 64) × (length (now y) ≤ 64) × (length (now z) ≤ 64) × (length (now t0) ≤ 64) × (length (now t1) ≤ 64) × (length (now t2) ≤ 64) × (k ≤ 80) ⌝ }
-    ensures { λ r. ⌜ r ≡ Spec.heldColumns refusal (now (x .entry)) (now (y .entry)) (now (z .entry)) (now (t0 .entry)) (now (t1 .entry)) (now (t2 .entry)) (now (w .entry)) k ⌝ }
+    requires { ⌜ Spec.Short (now x) (now y) (now z) (now t0) (now t1) (now t2) k ⌝ }
+    ensures { λ r. ⌜ r ≡ Spec.heldColumns refusal (passed x) (passed y) (passed z) (passed t0) (passed t1) (passed t2) (passed w) k ⌝ }
 {
     let p = k + 1 + x.len() + y.len() + z.len();
     let a = same_word(refusal as u64, w, k);
@@ -76,8 +77,8 @@ fn read_file_into(
     w: &[u64; 2048],
     k: usize,
 ) -> bool
-    requires { ⌜ (length (now x) ≤ 64) × (length (now y) ≤ 64) × (length (now z) ≤ 64) × (length (now t0) ≤ 64) × (length (now t1) ≤ 64) × (length (now t2) ≤ 64) × (k ≤ 80) ⌝ }
-    ensures { λ r. ⌜ r ≡ Spec.readFileInto (now (bytes .entry)) (now (x .entry)) (now (y .entry)) (now (z .entry)) (now (t0 .entry)) (now (t1 .entry)) (now (t2 .entry)) (now (w .entry)) k ⌝ }
+    requires { ⌜ Spec.Short (now x) (now y) (now z) (now t0) (now t1) (now t2) k ⌝ }
+    ensures { λ r. ⌜ r ≡ Spec.readFileInto (passed bytes) (passed x) (passed y) (passed z) (passed t0) (passed t1) (passed t2) (passed w) k ⌝ }
 {
     let refusal = panel_file::read_panel_file(bytes, x, y, z, t0, t1, t2);
     held_columns(refusal, x, y, z, t0, t1, t2, w, k)
@@ -93,7 +94,7 @@ fn read_panels_into(
     q: usize,
 ) -> bool
     requires { ⌜ (length (now x) ≤ 64) × (length (now y) ≤ 64) × (length (now z) ≤ 64) × (q ≤ 65) ⌝ }
-    ensures { λ r. ⌜ r ≡ Spec.readPanelsInto (now (bytes .entry)) (now (x .entry)) (now (y .entry)) (now (z .entry)) (now (w .entry)) q ⌝ }
+    ensures { λ r. ⌜ r ≡ Spec.readPanelsInto (passed bytes) (passed x) (passed y) (passed z) (passed w) q ⌝ }
 {
     let n0 = length_at(w, q + 3);
     let n1 = length_at(w, q + 4);
@@ -117,7 +118,7 @@ fn read_panels_into(
 // The six lengths begin at place q.
 fn read_file_of(bytes: &[u8], w: &[u64; 2048], q: usize) -> bool
     requires { ⌜ q ≤ 65 ⌝ }
-    ensures { λ r. ⌜ r ≡ Spec.readFileOf (now (bytes .entry)) (now (w .entry)) q ⌝ }
+    ensures { λ r. ⌜ r ≡ Spec.readFileOf (passed bytes) (passed w) q ⌝ }
 {
     let nx = length_at(w, q);
     let ny = length_at(w, q + 1);
@@ -129,7 +130,7 @@ fn read_file_of(bytes: &[u8], w: &[u64; 2048], q: usize) -> bool
 }
 
 fn read_file(b: &[u8; 16384], w: &[u64; 2048]) -> bool
-    ensures { λ r. ⌜ r ≡ Spec.readFile (now (b .entry)) (now (w .entry)) ⌝ }
+    ensures { λ r. ⌜ r ≡ Spec.readFile (passed b) (passed w) ⌝ }
 {
     let n = cut_at(w, 0, 512);
     let q = bytes_end(n);
@@ -139,7 +140,7 @@ fn read_file(b: &[u8; 16384], w: &[u64; 2048]) -> bool
 
 // Whether the program prints so for an input.
 fn prints(input: &[u8], stored: &[u8]) -> bool
-    ensures { λ r. ⌜ r ≡ Spec.prints (now (input .entry)) (now (stored .entry)) ⌝ }
+    ensures { λ r. ⌜ r ≡ Spec.prints (passed input) (passed stored) ⌝ }
 {
     let mut output = [0u8; 7054];
     let k = density_text::density_text(input, &mut output);
@@ -147,7 +148,7 @@ fn prints(input: &[u8], stored: &[u8]) -> bool
 }
 
 fn density_program(b: &[u8; 16384], w: &[u64; 2048]) -> bool
-    ensures { λ r. ⌜ r ≡ Spec.densityProgram (now (b .entry)) (now (w .entry)) ⌝ }
+    ensures { λ r. ⌜ r ≡ Spec.densityProgram (passed b) (passed w) ⌝ }
 {
     let n = cut_at(w, 0, 512);
     let q = bytes_end(n);
@@ -159,7 +160,7 @@ fn density_program(b: &[u8; 16384], w: &[u64; 2048]) -> bool
 
 // By the kind's number.
 pub fn agree(kind: u64, b: &[u8; 16384], w: &[u64; 2048]) -> bool
-    ensures { λ r. ⌜ r ≡ Spec.filesAgree kind (now (b .entry)) (now (w .entry)) ⌝ }
+    ensures { λ r. ⌜ r ≡ Spec.filesAgree kind (passed b) (passed w) ⌝ }
 {
     if kind == 33 {
         return read_file(b, w);

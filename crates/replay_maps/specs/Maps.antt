@@ -5,7 +5,7 @@ use Prim.Native.Nat.{ℕ, _+_, _*_}
 use lib.Dec.{eqb}
 use lib.ListN.{getD, length}
 use lib.Ieee.{Float}
-use Rattle.mesh.specs.Refusal.{after}
+use Rattle.refusal.specs.Checks.{after}
 use Rattle.linkage.specs.Answer.{valueAfter}
 use Rattle.linkage.specs.Energy as Energy
 use Rattle.linkage.specs.Flux as Flux

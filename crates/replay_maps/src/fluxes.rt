@@ -2,6 +2,7 @@
 ghost use mathlib.Core.Path.{_≡_};
 ghost use Prim.Native.Nat.{_+_, _≤_};
 ghost use lib.ListN.{length};
+ghost use Rattle.lists.specs.Lent.{passed};
 ghost use Rattle.replay_maps.specs.Maps as Spec;
 use replay_words::buffers::held;
 use replay_words::words::length_at;
@@ -10,7 +11,7 @@ use replay_words::words::same_word;
 // The call, its number and its buffer compared.
 fn flux_into(map: &[f64], cs: &[f64], out: &mut [f64], w: &[u64; 2048], k: usize) -> bool
     requires { ⌜ k + 1 + length (now out) ≤ 2048 ⌝ }
-    ensures { λ r. ⌜ r ≡ Spec.fluxInto (now (map .entry)) (now (cs .entry)) (now (out .entry)) (now (w .entry)) k ⌝ }
+    ensures { λ r. ⌜ r ≡ Spec.fluxInto (passed map) (passed cs) (passed out) (passed w) k ⌝ }
 {
     let refusal = linkage::flux::triangle_mesh_flux_linkage_from_source_coefficients(map, cs, out);
     let a = same_word(refusal as u64, w, k);
@@ -19,7 +20,7 @@ fn flux_into(map: &[f64], cs: &[f64], out: &mut [f64], w: &[u64; 2048], k: usize
 }
 
 pub fn flux(f: &[f64; 2048], w: &[u64; 2048]) -> bool
-    ensures { λ r. ⌜ r ≡ Spec.flux (now (f .entry)) (now (w .entry)) ⌝ }
+    ensures { λ r. ⌜ r ≡ Spec.flux (passed f) (passed w) ⌝ }
 {
     let n = length_at(w, 0);
     let m = length_at(w, n + 1);

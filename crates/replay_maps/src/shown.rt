@@ -1,5 +1,6 @@
 // The display value.
 ghost use mathlib.Core.Path.{_≡_};
+ghost use Rattle.lists.specs.Lent.{passed};
 ghost use Rattle.replay_maps.specs.Shown as Spec;
 use replay_words::words::same_word;
 
@@ -18,7 +19,7 @@ fn signed(n: u64) -> i64
 }
 
 pub fn display(f: &[f64; 2048], w: &[u64; 2048]) -> bool
-    ensures { λ r. ⌜ r ≡ Spec.display (now (f .entry)) (now (w .entry)) ⌝ }
+    ensures { λ r. ⌜ r ≡ Spec.display (passed f) (passed w) ⌝ }
 {
     let shown = display::display(f[0]);
     let value = shown.value;
@@ -29,7 +30,7 @@ pub fn display(f: &[f64; 2048], w: &[u64; 2048]) -> bool
 
 // By the kind's number.
 pub fn agree(kind: u64, f: &[f64; 2048], w: &[u64; 2048]) -> bool
-    ensures { λ r. ⌜ r ≡ Spec.shownAgree kind (now (f .entry)) (now (w .entry)) ⌝ }
+    ensures { λ r. ⌜ r ≡ Spec.shownAgree kind (passed f) (passed w) ⌝ }
 {
     if kind == 35 {
         return display(f, w);

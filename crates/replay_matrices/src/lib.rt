@@ -2,7 +2,8 @@
 ghost use mathlib.Core.Path.{_≡_};
 ghost use Prim.Native.Nat.{_+_, _≤_};
 ghost use lib.ListN.{length};
-ghost use Rattle.mesh.specs.Mesh.{meshOf};
+ghost use Rattle.lists.specs.Lent.{passed};
+ghost use Rattle.mesh.specs.Mesh.{passedMesh};
 ghost use Rattle.replay_matrices.specs.Matrices as Spec;
 use replay_columns::columns::column_at;
 use replay_columns::columns::nodes;
@@ -26,7 +27,7 @@ fn matrix_into(
     k: usize,
 ) -> bool
     requires { ⌜ k + 1 + length (now out) ≤ 2048 ⌝ }
-    ensures { λ r. ⌜ r ≡ Spec.matrixInto rule (meshOf (now (x .entry)) (now (y .entry)) (now (z .entry)) (now (t0 .entry)) (now (t1 .entry)) (now (t2 .entry))) (now (out .entry)) (now (w .entry)) k ⌝ }
+    ensures { λ r. ⌜ r ≡ Spec.matrixInto rule (passedMesh x y z t0 t1 t2) (passed out) (passed w) k ⌝ }
 {
     let refusal = inductance::triangle_mesh_inductance_matrix(rule, x, y, z, t0, t1, t2, out);
     let a = same_word(refusal as u64, w, k);
@@ -46,7 +47,7 @@ fn matrix_of(
     g: usize,
 ) -> bool
     requires { ⌜ g ≤ 298 ⌝ }
-    ensures { λ r. ⌜ r ≡ Spec.matrixOf rule (meshOf (now (x .entry)) (now (y .entry)) (now (z .entry)) (now (t0 .entry)) (now (t1 .entry)) (now (t2 .entry))) (now (w .entry)) g ⌝ }
+    ensures { λ r. ⌜ r ≡ Spec.matrixOf rule (passedMesh x y z t0 t1 t2) (passed w) g ⌝ }
 {
     let n = cut_at(w, g, 576);
     let mut out = [77.0f64; 576];
@@ -55,7 +56,7 @@ fn matrix_of(
 
 // The matrix of a case.
 fn matrix_case(f: &[f64; 2048], u: &[usize; 2048], w: &[u64; 2048]) -> bool
-    ensures { λ r. ⌜ r ≡ Spec.matrixCase (now (f .entry)) (now (u .entry)) (now (w .entry)) ⌝ }
+    ensures { λ r. ⌜ r ≡ Spec.matrixCase (passed f) (passed u) (passed w) ⌝ }
 {
     let rule = rule_of(w[0]);
     let x = nodes(f, w, 1, 0);
@@ -70,7 +71,7 @@ fn matrix_case(f: &[f64; 2048], u: &[usize; 2048], w: &[u64; 2048]) -> bool
 
 // By the kind's number.
 pub fn agree(kind: u64, f: &[f64; 2048], u: &[usize; 2048], w: &[u64; 2048]) -> bool
-    ensures { λ r. ⌜ r ≡ Spec.matricesAgree kind (now (f .entry)) (now (u .entry)) (now (w .entry)) ⌝ }
+    ensures { λ r. ⌜ r ≡ Spec.matricesAgree kind (passed f) (passed u) (passed w) ⌝ }
 {
     if kind == 25 {
         return matrix_case(f, u, w);

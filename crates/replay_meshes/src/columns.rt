@@ -1,7 +1,8 @@
 // A case by its mesh, taken from its columns. The words stand in u as places.
 ghost use mathlib.Core.Path.{_≡_};
 ghost use Prim.Native.Nat.{_≤_};
-ghost use Rattle.mesh.specs.Mesh.{meshOf};
+ghost use Rattle.lists.specs.Lent.{passed};
+ghost use Rattle.mesh.specs.Mesh.{passedMesh};
 ghost use Rattle.replay_meshes.specs.Meshes as Spec;
 use crate::densities::densities_of;
 use crate::quadratures::quadrature_of;
@@ -22,7 +23,7 @@ fn mesh_test_of(
     g: usize,
 ) -> bool
     requires { ⌜ g ≤ 298 ⌝ }
-    ensures { λ r. ⌜ r ≡ Spec.meshTestOf (meshOf (now (x .entry)) (now (y .entry)) (now (z .entry)) (now (t0 .entry)) (now (t1 .entry)) (now (t2 .entry))) (now (w .entry)) g ⌝ }
+    ensures { λ r. ⌜ r ≡ Spec.meshTestOf (passedMesh x y z t0 t1 t2) (passed w) g ⌝ }
 {
     let tested = mesh::validate_triangle_mesh_geometry(x, y, z, t0, t1, t2);
     same_count(tested.refusal, tested.poor, w, g)
@@ -42,7 +43,7 @@ fn of_mesh(
     g: usize,
 ) -> bool
     requires { ⌜ g ≤ 298 ⌝ }
-    ensures { λ r. ⌜ r ≡ Spec.ofMesh kind (meshOf (now (x .entry)) (now (y .entry)) (now (z .entry)) (now (t0 .entry)) (now (t1 .entry)) (now (t2 .entry))) (now (f .entry)) (now (w .entry)) g ⌝ }
+    ensures { λ r. ⌜ r ≡ Spec.ofMesh kind (passedMesh x y z t0 t1 t2) (passed f) (passed w) g ⌝ }
 {
     if kind == 20 {
         return mesh_test_of(x, y, z, t0, t1, t2, w, g);
@@ -60,7 +61,7 @@ fn of_mesh(
 // The mesh begins at place k.
 fn with_mesh(kind: u64, f: &[f64; 2048], u: &[usize; 2048], w: &[u64; 2048], k: usize) -> bool
     requires { ⌜ k ≤ 1 ⌝ }
-    ensures { λ r. ⌜ r ≡ Spec.withMesh kind (now (f .entry)) (now (u .entry)) (now (w .entry)) k ⌝ }
+    ensures { λ r. ⌜ r ≡ Spec.withMesh kind (passed f) (passed u) (passed w) k ⌝ }
 {
     let x = nodes(f, w, k, 0);
     let y = nodes(f, w, k, 1);
@@ -74,7 +75,7 @@ fn with_mesh(kind: u64, f: &[f64; 2048], u: &[usize; 2048], w: &[u64; 2048], k: 
 
 // The mesh is the first input, or stands behind a rule.
 pub fn agree(kind: u64, f: &[f64; 2048], u: &[usize; 2048], w: &[u64; 2048]) -> bool
-    ensures { λ r. ⌜ r ≡ Spec.meshesAgree kind (now (f .entry)) (now (u .entry)) (now (w .entry)) ⌝ }
+    ensures { λ r. ⌜ r ≡ Spec.meshesAgree kind (passed f) (passed u) (passed w) ⌝ }
 {
     if kind == 21 {
         return with_mesh(kind, f, u, w, 1);

@@ -2,7 +2,8 @@
 ghost use mathlib.Core.Path.{_≡_};
 ghost use Prim.Native.Nat.{_+_, _≤_};
 ghost use lib.ListN.{length};
-ghost use Rattle.mesh.specs.Mesh.{meshOf};
+ghost use Rattle.lists.specs.Lent.{passed};
+ghost use Rattle.mesh.specs.Mesh.{passedMesh};
 ghost use Rattle.replay_meshes.specs.Meshes as Spec;
 use boundary_element::current_density;
 use replay_words::buffers::held;
@@ -26,7 +27,7 @@ fn densities_into(
     k: usize,
 ) -> bool
     requires { ⌜ k + 1 + length (now jx) + length (now jy) + length (now jz) ≤ 2048 ⌝ }
-    ensures { λ r. ⌜ r ≡ Spec.densitiesInto (meshOf (now (x .entry)) (now (y .entry)) (now (z .entry)) (now (t0 .entry)) (now (t1 .entry)) (now (t2 .entry))) (now (s .entry)) (now (jx .entry)) (now (jy .entry)) (now (jz .entry)) (now (w .entry)) k ⌝ }
+    ensures { λ r. ⌜ r ≡ Spec.densitiesInto (passedMesh x y z t0 t1 t2) (passed s) (passed jx) (passed jy) (passed jz) (passed w) k ⌝ }
 {
     let p = k + 1 + jx.len();
     let q = p + jy.len();
@@ -61,7 +62,7 @@ pub fn densities_of(
     g: usize,
 ) -> bool
     requires { ⌜ g ≤ 298 ⌝ }
-    ensures { λ r. ⌜ r ≡ Spec.densitiesOf (meshOf (now (x .entry)) (now (y .entry)) (now (z .entry)) (now (t0 .entry)) (now (t1 .entry)) (now (t2 .entry))) (now (f .entry)) (now (w .entry)) g ⌝ }
+    ensures { λ r. ⌜ r ≡ Spec.densitiesOf (passedMesh x y z t0 t1 t2) (passed f) (passed w) g ⌝ }
 {
     let h = column_end(w, g);
     let all = &f[..];

@@ -2,7 +2,8 @@
 ghost use mathlib.Core.Path.{_≡_};
 ghost use Prim.Native.Nat.{_+_, _≤_};
 ghost use lib.ListN.{length};
-ghost use Rattle.mesh.specs.Mesh.{meshOf};
+ghost use Rattle.lists.specs.Lent.{passed};
+ghost use Rattle.mesh.specs.Mesh.{passedMesh};
 ghost use Rattle.replay_meshes.specs.Meshes as Spec;
 use boundary_element::quadrature_points;
 use replay_words::buffers::held;
@@ -26,7 +27,7 @@ fn quadrature_into(
     k: usize,
 ) -> bool
     requires { ⌜ k + 1 + length (now px) + length (now py) + length (now pz) + length (now pw) ≤ 2048 ⌝ }
-    ensures { λ r. ⌜ r ≡ Spec.quadratureInto rule (meshOf (now (x .entry)) (now (y .entry)) (now (z .entry)) (now (t0 .entry)) (now (t1 .entry)) (now (t2 .entry))) (now (px .entry)) (now (py .entry)) (now (pz .entry)) (now (pw .entry)) (now (w .entry)) k ⌝ }
+    ensures { λ r. ⌜ r ≡ Spec.quadratureInto rule (passedMesh x y z t0 t1 t2) (passed px) (passed py) (passed pz) (passed pw) (passed w) k ⌝ }
 {
     let p = k + 1 + px.len();
     let q = p + py.len();
@@ -64,7 +65,7 @@ pub fn quadrature_of(
     g: usize,
 ) -> bool
     requires { ⌜ g ≤ 298 ⌝ }
-    ensures { λ r. ⌜ r ≡ Spec.quadratureOf rule (meshOf (now (x .entry)) (now (y .entry)) (now (z .entry)) (now (t0 .entry)) (now (t1 .entry)) (now (t2 .entry))) (now (w .entry)) g ⌝ }
+    ensures { λ r. ⌜ r ≡ Spec.quadratureOf rule (passedMesh x y z t0 t1 t2) (passed w) g ⌝ }
 {
     let nx = length_at(w, g);
     let ny = length_at(w, g + 1);

@@ -12,7 +12,8 @@ use borrow.Author.Tests.{eqb-true, eqb-false}
 use lib.Dec.{eqb}
 use lib.ListN.{length, getD, take, length-take}
 use lib.Ieee.{Float}
-use Rattle.mesh.specs.Refusal.{after, after-done, after-refused}
+use Rattle.refusal.specs.Checks.{after}
+use Rattle.refusal.proofs.Checks.{after-done, after-refused}
 use Rattle.binary64.specs.Binary64.{at}
 use Rattle.mesh.specs.Mesh.{Mesh, meshOf, nnode}
 use Rattle.scatter.specs.Entries.{same}

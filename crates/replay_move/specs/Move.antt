@@ -7,7 +7,7 @@ use lib.ListN.{length, getD}
 use lib.Ieee.{Float}
 use Rattle.binary64.specs.Binary64.{at}
 use Rattle.tri.specs.Quadrature.{quadratureRule}
-use Rattle.mesh.specs.Refusal.{after}
+use Rattle.refusal.specs.Checks.{after}
 use Rattle.mesh.specs.Mesh.{Mesh, nnode}
 use Rattle.scatter.specs.Entries.{same}
 use Rattle.scatter.specs.Renewal.{renewed}

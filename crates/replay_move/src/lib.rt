@@ -2,7 +2,8 @@
 ghost use mathlib.Core.Path.{_≡_};
 ghost use Prim.Native.Nat.{_+_, _≤_};
 ghost use lib.ListN.{length};
-ghost use Rattle.mesh.specs.Mesh.{meshOf};
+ghost use Rattle.lists.specs.Lent.{passed};
+ghost use Rattle.mesh.specs.Mesh.{passedMesh};
 ghost use Rattle.replay_move.specs.Move as Spec;
 use replay_columns::after::left_as_due;
 use replay_columns::columns::column_at;
@@ -34,7 +35,7 @@ fn move_into(
 ) -> bool
     requires { ⌜ k + 2 + length (now cells0) + length (now x0) + length (now y0) + length (now z0) ≤ 2048 ⌝ }
     requires { ⌜ (now x ≡ now x0) × (now y ≡ now y0) × (now z ≡ now z0) × (now cells ≡ now cells0) ⌝ }
-    ensures { λ r. ⌜ r ≡ Spec.moveInto rule (meshOf (now (x .entry)) (now (y .entry)) (now (z .entry)) (now (t0 .entry)) (now (t1 .entry)) (now (t2 .entry))) (now (cells .entry)) node place (now (w .entry)) k ⌝ }
+    ensures { λ r. ⌜ r ≡ Spec.moveInto rule (passedMesh x y z t0 t1 t2) (passed cells) node place (passed w) k ⌝ }
 {
     let moved = node_move::move_node(
         rule,
@@ -68,7 +69,7 @@ fn move_of(
     g: usize,
 ) -> bool
     requires { ⌜ (g ≤ 298) × (length (now x) ≤ 48) × (length (now y) ≤ 48) × (length (now z) ≤ 48) ⌝ }
-    ensures { λ r. ⌜ r ≡ Spec.moveOf rule (meshOf (now (x .entry)) (now (y .entry)) (now (z .entry)) (now (t0 .entry)) (now (t1 .entry)) (now (t2 .entry))) (now (f .entry)) (now (w .entry)) g ⌝ }
+    ensures { λ r. ⌜ r ≡ Spec.moveOf rule (passedMesh x y z t0 t1 t2) (passed f) (passed w) g ⌝ }
 {
     let n = cut_at(w, g, 576);
     let all = &f[..];
@@ -101,7 +102,7 @@ fn move_of(
 
 // The move of a case.
 fn move_case(f: &[f64; 2048], u: &[usize; 2048], w: &[u64; 2048]) -> bool
-    ensures { λ r. ⌜ r ≡ Spec.moveCase (now (f .entry)) (now (u .entry)) (now (w .entry)) ⌝ }
+    ensures { λ r. ⌜ r ≡ Spec.moveCase (passed f) (passed u) (passed w) ⌝ }
 {
     let rule = rule_of(w[0]);
     let x = nodes(f, w, 1, 0);
@@ -116,7 +117,7 @@ fn move_case(f: &[f64; 2048], u: &[usize; 2048], w: &[u64; 2048]) -> bool
 
 // By the kind's number.
 pub fn agree(kind: u64, f: &[f64; 2048], u: &[usize; 2048], w: &[u64; 2048]) -> bool
-    ensures { λ r. ⌜ r ≡ Spec.movesAgree kind (now (f .entry)) (now (u .entry)) (now (w .entry)) ⌝ }
+    ensures { λ r. ⌜ r ≡ Spec.movesAgree kind (passed f) (passed u) (passed w) ⌝ }
 {
     if kind == 30 {
         return move_case(f, u, w);

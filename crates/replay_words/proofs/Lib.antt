@@ -1,2 +1,4 @@
 pub mod Lent
 pub mod Copy
+pub mod Comparing
+pub mod ComparingBytes

@@ -1,9 +1,7 @@
--- The replay: a lent buffer after a call: what is due, or on a refusal the pattern that it was lent with. Definitions, with the equations of those that recur.
-use mathlib.Core.Path.{_≡_}
+-- The replay: a lent buffer after a call: what is due, or on a refusal the pattern that it was lent with. Definitions only.
 use mathlib.Core.Bool.{Bool, true, cond, _&&_}
 use mathlib.Core.List.{List}
 use Prim.Native.Nat.{ℕ, zero, suc, _+_}
-use native.Mathlib.Numerals.{add-one}
 use lib.Dec.{eqb}
 use lib.ListN.{getD, length, replicate}
 use lib.Ieee.{Float}
@@ -28,10 +26,6 @@ unfoldable pub heldTo : ℕ → List Float → List ℕ → ℕ → ℕ → Bool
 heldTo r v w k zero = true
 heldTo r v w k (suc n) = heldTo r v w k n && eqb (canonicalBits (at v n)) (dueWord pattern r w (k + n))
 
-pub held-more : (r : ℕ) (v : List Float) (w : List ℕ) (k n : ℕ) → heldTo r v w k (n + 1) ≡ (heldTo r v w k n && eqb (canonicalBits (at v n)) (dueWord pattern r w (k + n)))
-unfolding heldTo
-held-more r v w k n = rw add-one
-
 -- the whole buffer
 abbrev pub held : ℕ → List Float → List ℕ → ℕ → Bool
 held r v w k = heldTo r v w k (length v)
@@ -40,10 +34,6 @@ held r v w k = heldTo r v w k (length v)
 unfoldable pub placesTo : ℕ → List ℕ → List ℕ → ℕ → ℕ → Bool
 placesTo r v w k zero = true
 placesTo r v w k (suc n) = placesTo r v w k n && eqb (getD v n 0) (dueWord 77 r w (k + n))
-
-pub places-more : (r : ℕ) (v w : List ℕ) (k n : ℕ) → placesTo r v w k (n + 1) ≡ (placesTo r v w k n && eqb (getD v n 0) (dueWord 77 r w (k + n)))
-unfolding placesTo
-places-more r v w k n = rw add-one
 
 abbrev pub heldPlaces : ℕ → List ℕ → List ℕ → ℕ → Bool
 heldPlaces r v w k = placesTo r v w k (length v)
@@ -55,10 +45,6 @@ lentPlaces size n = part (replicate size 77) 0 n
 unfoldable pub sameTo : List Float → List Float → ℕ → Bool
 sameTo v u zero = true
 sameTo v u (suc n) = sameTo v u n && eqb (canonicalBits (at v n)) (canonicalBits (at u n))
-
-pub same-more : (v u : List Float) (n : ℕ) → sameTo v u (n + 1) ≡ (sameTo v u n && eqb (canonicalBits (at v n)) (canonicalBits (at u n)))
-unfolding sameTo
-same-more v u n = rw add-one
 
 abbrev pub sameNumbers : List Float → List Float → Bool
 sameNumbers v u = sameTo v u (length v)

@@ -1,9 +1,7 @@
--- The replay: bytes in a stored case: where they end, and their comparison. Definitions, with the equation of the one that recurs.
-use mathlib.Core.Path.{_≡_}
+-- The replay: bytes in a stored case: where they end, and their comparison. Definitions only.
 use mathlib.Core.Bool.{Bool, true, _&&_}
 use mathlib.Core.List.{List}
 use Prim.Native.Nat.{ℕ, zero, suc, _+_, _/_}
-use native.Mathlib.Numerals.{add-one}
 use lib.Dec.{eqb}
 use lib.ListN.{getD, length}
 
@@ -15,10 +13,6 @@ bytesEnd n = 1 + (n + 7) / 8
 unfoldable pub bytesTo : List ℕ → List ℕ → ℕ → Bool
 bytesTo a b zero = true
 bytesTo a b (suc n) = bytesTo a b n && eqb (getD a n 0) (getD b n 0)
-
-pub bytes-more : (a b : List ℕ) (n : ℕ) → bytesTo a b (n + 1) ≡ (bytesTo a b n && eqb (getD a n 0) (getD b n 0))
-unfolding bytesTo
-bytes-more a b n = rw add-one
 
 -- as many, and each the same
 unfoldable pub sameBytes : List ℕ → List ℕ → Bool

@@ -2,12 +2,13 @@
 ghost use mathlib.Core.Path.{_≡_};
 ghost use Prim.Native.Nat.{_+_, _≤_, _<_};
 ghost use lib.ListN.{length};
+ghost use Rattle.lists.specs.Lent.{passed};
 ghost use Rattle.replay_words.specs.Buffers as Spec;
 
 // The word that a place's bits must be.
 fn due_word(pattern: u64, refusal: u32, w: &[u64; 2048], k: usize) -> u64
     requires { ⌜ k < 2048 ⌝ }
-    ensures { λ r. ⌜ r ≡ Spec.dueWord pattern refusal (now (w .entry)) k ⌝ }
+    ensures { λ r. ⌜ r ≡ Spec.dueWord pattern refusal (passed w) k ⌝ }
 {
     if refusal == 0 {
         return w[k];
@@ -17,7 +18,7 @@ fn due_word(pattern: u64, refusal: u32, w: &[u64; 2048], k: usize) -> u64
 
 pub fn held(refusal: u32, v: &[f64], w: &[u64; 2048], k: usize) -> bool
     requires { ⌜ k + length (now v) ≤ 2048 ⌝ }
-    ensures { λ r. ⌜ r ≡ Spec.held refusal (now (v .entry)) (now (w .entry)) k ⌝ }
+    ensures { λ r. ⌜ r ≡ Spec.held refusal (passed v) (passed w) k ⌝ }
 {
     let mut ok = true;
     let mut i = 0;
@@ -33,7 +34,7 @@ pub fn held(refusal: u32, v: &[f64], w: &[u64; 2048], k: usize) -> bool
 // The same of places.
 pub fn held_places(refusal: u32, v: &[usize], w: &[u64; 2048], k: usize) -> bool
     requires { ⌜ k + length (now v) ≤ 2048 ⌝ }
-    ensures { λ r. ⌜ r ≡ Spec.heldPlaces refusal (now (v .entry)) (now (w .entry)) k ⌝ }
+    ensures { λ r. ⌜ r ≡ Spec.heldPlaces refusal (passed v) (passed w) k ⌝ }
 {
     let mut ok = true;
     let mut i = 0;
@@ -48,7 +49,7 @@ pub fn held_places(refusal: u32, v: &[usize], w: &[u64; 2048], k: usize) -> bool
 // Two buffers of one length, number by number.
 fn same_numbers(v: &[f64], u: &[f64]) -> bool
     requires { ⌜ length (now v) ≡ length (now u) ⌝ }
-    ensures { λ r. ⌜ r ≡ Spec.sameNumbers (now (v .entry)) (now (u .entry)) ⌝ }
+    ensures { λ r. ⌜ r ≡ Spec.sameNumbers (passed v) (passed u) ⌝ }
 {
     let mut ok = true;
     let mut i = 0;
@@ -64,7 +65,7 @@ fn same_numbers(v: &[f64], u: &[f64]) -> bool
 // A buffer that a call changes: the stored results, or on a refusal what it held before.
 pub fn kept(refusal: u32, v: &[f64], before: &[f64], w: &[u64; 2048], k: usize) -> bool
     requires { ⌜ (k + length (now v) ≤ 2048) × (length (now v) ≡ length (now before)) ⌝ }
-    ensures { λ r. ⌜ r ≡ Spec.kept refusal (now (v .entry)) (now (before .entry)) (now (w .entry)) k ⌝ }
+    ensures { λ r. ⌜ r ≡ Spec.kept refusal (passed v) (passed before) (passed w) k ⌝ }
 {
     if refusal == 0 {
         return held(0, v, w, k);

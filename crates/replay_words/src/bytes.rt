@@ -1,6 +1,7 @@
 // Bytes of a stored case: their length in word 0, then eight to a word.
 ghost use mathlib.Core.Path.{_≡_};
 ghost use Prim.Native.Nat.{_≤_};
+ghost use Rattle.lists.specs.Lent.{passed};
 ghost use Rattle.replay_words.specs.Bytes as Spec;
 
 // The place behind n bytes that begin at place 1.
@@ -12,7 +13,7 @@ pub fn bytes_end(n: usize) -> usize
 }
 
 pub fn same_bytes(a: &[u8], b: &[u8]) -> bool
-    ensures { λ r. ⌜ r ≡ Spec.sameBytes (now (a .entry)) (now (b .entry)) ⌝ }
+    ensures { λ r. ⌜ r ≡ Spec.sameBytes (passed a) (passed b) ⌝ }
 {
     if a.len() != b.len() {
         return false;

@@ -2,12 +2,13 @@
 ghost use mathlib.Core.Path.{_≡_};
 ghost use Prim.Native.Nat.{_≤_};
 ghost use lib.ListN.{length};
+ghost use Rattle.lists.specs.Lent.{passed};
 ghost use Rattle.replay_words.specs.Words.{part};
 
 // The numbers, at the front of as many as the longest column or matrix has.
 pub fn copied(v: &[f64]) -> [f64; 576]
     requires { ⌜ length (now v) ≤ 576 ⌝ }
-    ensures { λ r. ⌜ part r 0 (length (now (v .entry))) ≡ now (v .entry) ⌝ }
+    ensures { λ r. ⌜ part r 0 (length (passed v)) ≡ passed v ⌝ }
 {
     let mut copy = [0.0f64; 576];
     let mut i = 0;

@@ -1,18 +1,19 @@
 // A stored case: 2,048 words, the same as numbers, and the comparison of results with them.
 ghost use mathlib.Core.Path.{_≡_};
 ghost use Prim.Native.Nat.{_+_, _≤_, _<_};
+ghost use Rattle.lists.specs.Lent.{passed};
 ghost use Rattle.replay_words.specs.Words as Spec;
 
 pub fn vector(f: &[f64; 2048], k: usize) -> [f64; 3]
     requires { ⌜ k + 3 ≤ 2048 ⌝ }
-    ensures { λ r. ⌜ r ≡ Spec.vectorAt (now (f .entry)) k ⌝ }
+    ensures { λ r. ⌜ r ≡ Spec.vectorAt (passed f) k ⌝ }
 {
     [f[k], f[k + 1], f[k + 2]]
 }
 
 pub fn triangle(f: &[f64; 2048], k: usize) -> [[f64; 3]; 3]
     requires { ⌜ k + 9 ≤ 2048 ⌝ }
-    ensures { λ r. ⌜ r ≡ Spec.triangleAt (now (f .entry)) k ⌝ }
+    ensures { λ r. ⌜ r ≡ Spec.triangleAt (passed f) k ⌝ }
 {
     let a = vector(f, k);
     let b = vector(f, k + 3);
@@ -22,7 +23,7 @@ pub fn triangle(f: &[f64; 2048], k: usize) -> [[f64; 3]; 3]
 
 pub fn nine(f: &[f64; 2048], k: usize) -> [f64; 9]
     requires { ⌜ k + 9 ≤ 2048 ⌝ }
-    ensures { λ r. ⌜ r ≡ Spec.nineAt (now (f .entry)) k ⌝ }
+    ensures { λ r. ⌜ r ≡ Spec.nineAt (passed f) k ⌝ }
 {
     [
         f[k],
@@ -39,28 +40,28 @@ pub fn nine(f: &[f64; 2048], k: usize) -> [f64; 9]
 
 pub fn same_word(n: u64, w: &[u64; 2048], k: usize) -> bool
     requires { ⌜ k < 2048 ⌝ }
-    ensures { λ r. ⌜ r ≡ Spec.sameWord n (now (w .entry)) k ⌝ }
+    ensures { λ r. ⌜ r ≡ Spec.sameWord n (passed w) k ⌝ }
 {
     n == w[k]
 }
 
 pub fn same_number(x: f64, w: &[u64; 2048], k: usize) -> bool
     requires { ⌜ k < 2048 ⌝ }
-    ensures { λ r. ⌜ r ≡ Spec.sameNumber x (now (w .entry)) k ⌝ }
+    ensures { λ r. ⌜ r ≡ Spec.sameNumber x (passed w) k ⌝ }
 {
     same_word(density_text::canonical_bits(x), w, k)
 }
 
 pub fn same_flag(t: bool, w: &[u64; 2048], k: usize) -> bool
     requires { ⌜ k < 2048 ⌝ }
-    ensures { λ r. ⌜ r ≡ Spec.sameFlag t (now (w .entry)) k ⌝ }
+    ensures { λ r. ⌜ r ≡ Spec.sameFlag t (passed w) k ⌝ }
 {
     same_word(t as u64, w, k)
 }
 
 pub fn same_vector(v: [f64; 3], w: &[u64; 2048], k: usize) -> bool
     requires { ⌜ k + 3 ≤ 2048 ⌝ }
-    ensures { λ r. ⌜ r ≡ Spec.sameVector v (now (w .entry)) k ⌝ }
+    ensures { λ r. ⌜ r ≡ Spec.sameVector v (passed w) k ⌝ }
 {
     let a = same_number(v[0], w, k);
     let b = same_number(v[1], w, k + 1);
@@ -70,7 +71,7 @@ pub fn same_vector(v: [f64; 3], w: &[u64; 2048], k: usize) -> bool
 
 pub fn same_triangle(t: [[f64; 3]; 3], w: &[u64; 2048], k: usize) -> bool
     requires { ⌜ k + 9 ≤ 2048 ⌝ }
-    ensures { λ r. ⌜ r ≡ Spec.sameTriangle t (now (w .entry)) k ⌝ }
+    ensures { λ r. ⌜ r ≡ Spec.sameTriangle t (passed w) k ⌝ }
 {
     let a = same_vector(t[0], w, k);
     let b = same_vector(t[1], w, k + 3);
@@ -80,7 +81,7 @@ pub fn same_triangle(t: [[f64; 3]; 3], w: &[u64; 2048], k: usize) -> bool
 
 pub fn same_nine(v: [f64; 9], w: &[u64; 2048], k: usize) -> bool
     requires { ⌜ k + 9 ≤ 2048 ⌝ }
-    ensures { λ r. ⌜ r ≡ Spec.sameNine v (now (w .entry)) k ⌝ }
+    ensures { λ r. ⌜ r ≡ Spec.sameNine v (passed w) k ⌝ }
 {
     let a = same_vector([v[0], v[1], v[2]], w, k);
     let b = same_vector([v[3], v[4], v[5]], w, k + 3);
@@ -90,7 +91,7 @@ pub fn same_nine(v: [f64; 9], w: &[u64; 2048], k: usize) -> bool
 
 pub fn same_value(refusal: u32, value: f64, w: &[u64; 2048], k: usize) -> bool
     requires { ⌜ k + 2 ≤ 2048 ⌝ }
-    ensures { λ r. ⌜ r ≡ Spec.sameValue refusal value (now (w .entry)) k ⌝ }
+    ensures { λ r. ⌜ r ≡ Spec.sameValue refusal value (passed w) k ⌝ }
 {
     let a = same_word(refusal as u64, w, k);
     let b = same_number(value, w, k + 1);
@@ -109,7 +110,7 @@ pub fn rule_of(n: u64) -> u32
 // A stored length, cut at 64.
 pub fn length_at(w: &[u64; 2048], k: usize) -> usize
     requires { ⌜ k < 2048 ⌝ }
-    ensures { λ r. ⌜ (r ≡ Spec.lengthAt (now (w .entry)) k) × (r ≤ 64) ⌝ }
+    ensures { λ r. ⌜ (r ≡ Spec.lengthAt (passed w) k) × (r ≤ 64) ⌝ }
 {
     let n = w[k];
     if n > 64 {
@@ -121,7 +122,7 @@ pub fn length_at(w: &[u64; 2048], k: usize) -> usize
 // The same, cut at 2,048.
 pub fn size_at(w: &[u64; 2048], k: usize) -> usize
     requires { ⌜ k < 2048 ⌝ }
-    ensures { λ r. ⌜ (r ≡ Spec.sizeAt (now (w .entry)) k) × (r ≤ 2048) ⌝ }
+    ensures { λ r. ⌜ (r ≡ Spec.sizeAt (passed w) k) × (r ≤ 2048) ⌝ }
 {
     let n = w[k];
     if n > 2048 {
@@ -133,7 +134,7 @@ pub fn size_at(w: &[u64; 2048], k: usize) -> usize
 // The same, cut at a given length.
 pub fn cut_at(w: &[u64; 2048], k: usize, most: usize) -> usize
     requires { ⌜ k < 2048 ⌝ }
-    ensures { λ r. ⌜ (r ≡ Spec.cutAt (now (w .entry)) k most) × (r ≤ most) ⌝ }
+    ensures { λ r. ⌜ (r ≡ Spec.cutAt (passed w) k most) × (r ≤ most) ⌝ }
 {
     let n = w[k];
     if n > most as u64 {
@@ -145,7 +146,7 @@ pub fn cut_at(w: &[u64; 2048], k: usize, most: usize) -> usize
 // The place behind a mesh's column.
 pub fn column_end(w: &[u64; 2048], k: usize) -> usize
     requires { ⌜ k < 400 ⌝ }
-    ensures { λ r. ⌜ (r ≡ Spec.columnEnd (now (w .entry)) k) × (k < r) × (r ≤ k + 49) ⌝ }
+    ensures { λ r. ⌜ (r ≡ Spec.columnEnd (passed w) k) × (k < r) × (r ≤ k + 49) ⌝ }
 {
     k + 1 + cut_at(w, k, 48)
 }
@@ -153,7 +154,7 @@ pub fn column_end(w: &[u64; 2048], k: usize) -> usize
 // A refusal and a count.
 pub fn same_count(refusal: u32, count: usize, w: &[u64; 2048], k: usize) -> bool
     requires { ⌜ k + 2 ≤ 2048 ⌝ }
-    ensures { λ r. ⌜ r ≡ Spec.sameCount refusal count (now (w .entry)) k ⌝ }
+    ensures { λ r. ⌜ r ≡ Spec.sameCount refusal count (passed w) k ⌝ }
 {
     let a = same_word(refusal as u64, w, k);
     let b = same_word(count as u64, w, k + 1);
@@ -163,7 +164,7 @@ pub fn same_count(refusal: u32, count: usize, w: &[u64; 2048], k: usize) -> bool
 // A refusal, where a row begins and how long it is.
 pub fn same_place(refusal: u32, offset: usize, length: usize, w: &[u64; 2048], k: usize) -> bool
     requires { ⌜ k + 3 ≤ 2048 ⌝ }
-    ensures { λ r. ⌜ r ≡ Spec.samePlace refusal offset length (now (w .entry)) k ⌝ }
+    ensures { λ r. ⌜ r ≡ Spec.samePlace refusal offset length (passed w) k ⌝ }
 {
     let a = same_word(refusal as u64, w, k);
     let b = same_word(offset as u64, w, k + 1);

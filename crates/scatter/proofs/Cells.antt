@@ -11,7 +11,7 @@ use lib.Arith.{digits-div, digits-mod}
 use lib.Ieee.{Float, nan}
 use borrow.Author.Tests.{eqb-true, eq-eqb}
 use Rattle.binary64.specs.Binary64.{at, plusZero}
-use Rattle.mesh.specs.Filling.{tabulate-length, tabulate-at}
+use Rattle.lists.proofs.Filling.{tabulate-length, tabulate-at}
 use Rattle.scatter.specs.Entries.{Entry, oriented, withTransposed, hits, keep, contributions, sumFrom, cellSum, square}
 use Rattle.scatter.specs.Renewal.{named, renewed, addAt, scatter, only, keepEntry, Within}
 

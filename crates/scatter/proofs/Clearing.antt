@@ -12,7 +12,8 @@ use lib.ListN.{length, getD, set}
 use lib.Seq.{getD-drop, drop-paste, set-getD, ext-getD}
 use lib.Ieee.{Float, nan}
 use Rattle.binary64.specs.Binary64.{at, plusZero}
-use Rattle.mesh.specs.Filling.{tabulate, tabulate-length, tabulate-at, filled, column-end, fill-run, run, run-length, run-turn, run-next}
+use Rattle.lists.specs.Filling.{tabulate, filled, run}
+use Rattle.lists.proofs.Filling.{tabulate-length, tabulate-at, column-end, run-run, run-length, run-turn, run-next}
 use Rattle.scatter.specs.Entries.{Entry, contributions, cellSum}
 use Rattle.scatter.specs.Renewal.{named, renewed, clearedIn, scatter, only, renewing, Within}
 use Rattle.scatter.specs.Links.{nextFrom}
@@ -86,7 +87,7 @@ module _ (r : ℕ → Bool) (n : ℕ) (held : List Float) (size : length held �
       let z : a + n ≡ (row + 1) * n = sym (suc-mul row n) ∙ ap (λ (i : ℕ). i * n) (sym (add-one row)) in
       e
       ∙ ap (λ (x : List Float). run x a n (clearedIn r n x row) n) w
-      ∙ fill-run held (n * n) g (clearedIn r n m row) a n size (row-end n row l)
+      ∙ run-run held (n * n) g (clearedIn r n m row) a n (row-end n row l)
       (λ k b. rw (digits-div row b, digits-mod row b, not-yet held 0 (n * n) g a (a + k) (omega arith) (omega (arith, row-end n row l)) (omega arith)))
       ∙ ap (filled held (n * n) g) z
 

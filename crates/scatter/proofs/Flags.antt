@@ -8,9 +8,9 @@ use native.Mathlib.Nat.{eq-or-lt-of-le}
 use native.Mathlib.Omega.{arith}
 use lib.ListN.{length, set}
 use lib.Seq.{getD-set-same, getD-set-other}
-use Rattle.mesh.specs.Counting.{anyOf}
+use Rattle.lists.specs.Counting.{anyOf}
 use Rattle.mesh.specs.Mesh.{Mesh, ntri, triangleIndices}
-use Rattle.mesh.proofs.Refusals.{or-off}
+use Rattle.refusal.proofs.Tests.{or-off}
 use Rattle.scatter.specs.Renewal.{named, marked}
 use Rattle.scatter.specs.Links.{nextFrom}
 use Rattle.scatter.specs.Flags.{Flagged}

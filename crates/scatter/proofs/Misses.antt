@@ -6,8 +6,8 @@ use Prim.Native.Nat.{ℕ, suc, _+_}
 use lib.Dec.{eqb}
 use lib.Ieee.{Float}
 use Rattle.binary64.specs.Binary64.{at}
-use Rattle.mesh.specs.Counting.{anyOf}
-use Rattle.mesh.proofs.Refusals.{or-off}
+use Rattle.lists.specs.Counting.{anyOf}
+use Rattle.refusal.proofs.Tests.{or-off}
 use Rattle.scatter.specs.Entries.{Entry, same, transpose, rowEntries, blockEntries, oriented, withTransposed, hits, keep, contributions}
 use Rattle.scatter.specs.Renewal.{named, scatter, only, keepEntry, renewing}
 use Rattle.scatter.proofs.Cells.{only-append}

@@ -6,7 +6,7 @@ use Prim.Native.Nat.{ℕ, suc, _+_, _*_, _/_, _%_}
 use lib.Dec.{eqb}
 use lib.Ieee.{Float}
 use Rattle.binary64.specs.Binary64.{_⊕_, at, plusZero}
-use Rattle.mesh.specs.Filling.{tabulate}
+use Rattle.lists.specs.Filling.{tabulate}
 
 -- one addition: value goes to the cell (row, col)
 pub record Entry : Type 0 where

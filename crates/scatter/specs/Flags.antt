@@ -3,7 +3,7 @@ use mathlib.Core.Path.{_≡_}
 use mathlib.Core.Bool.{Bool}
 use mathlib.Core.List.{List}
 use Prim.Native.Nat.{ℕ, _<_}
-use Rattle.mesh.specs.Counting.{anyOf}
+use Rattle.lists.specs.Counting.{anyOf}
 use Rattle.mesh.specs.Mesh.{Mesh, ntri, triangleIndices}
 use Rattle.scatter.specs.Renewal.{AllBelow, marked}
 

@@ -6,11 +6,12 @@ ghost use mathlib.Core.Bool.{cond};
 ghost use mathlib.Core.List.{[], _∷_};
 ghost use Prim.Native.Nat.{_<_, _≤_, _*_, _-_};
 ghost use lib.ListN.{length};
+ghost use Rattle.lists.specs.Lent.{passed, left};
 ghost use Rattle.binary64.specs.Binary64.{plusZero};
 ghost use Rattle.mesh.specs.Mesh.{maxNodes, meshOf};
 ghost use Rattle.mesh.specs.Conditions.{PanelColumnsAlike};
-ghost use Rattle.mesh.specs.Counting.{anyOf, three};
-ghost use Rattle.mesh.specs.Filling.{run};
+ghost use Rattle.lists.specs.Counting.{anyOf, three};
+ghost use Rattle.lists.specs.Filling.{run};
 ghost use Rattle.scatter.specs.Entries.{entry, rowEntries, blockEntries, oriented, withTransposed};
 ghost use Rattle.scatter.specs.Renewal.{named, renewed, addAt, renewing, clearedIn, marked, Sized, AllBelow};
 ghost use Rattle.scatter.specs.Links.{nextFrom, Linked};
@@ -19,7 +20,7 @@ ghost use Rattle.scatter.specs.Flags.{IndicesBelow, Flagged};
 // One addition.
 fn add_at(out: &mut [f64], n: usize, row: usize, col: usize, v: f64)
     requires { ⌜ (n ≤ maxNodes) × (length (now out) ≡ n * n) × (row < n) × (col < n) ⌝ }
-    ensures { λ _. ⌜ now (out .exit) ≡ addAt n (now (out .entry)) (entry row col v) ⌝ }
+    ensures { λ _. ⌜ left out ≡ addAt n (passed out) (entry row col v) ⌝ }
 {
     let k = row * n + col;
     out[k] = out[k] + v;
@@ -29,7 +30,7 @@ fn add_at(out: &mut [f64], n: usize, row: usize, col: usize, v: f64)
 fn add_named(out: &mut [f64], n: usize, marks: &[bool], row: usize, col: usize, v: f64)
     requires { ⌜ Sized n (now out) (now marks) ⌝ }
     requires { ⌜ (row < n) × (col < n) ⌝ }
-    ensures { λ _. ⌜ now (out .exit) ≡ renewing (marked (now (marks .entry))) n (now (out .entry)) (entry row col v ∷ []) ⌝ }
+    ensures { λ _. ⌜ left out ≡ renewing (marked (passed marks)) n (passed out) (entry row col v ∷ []) ⌝ }
 {
     if marks[row] | marks[col] {
         add_at(out, n, row, col, v);
@@ -48,7 +49,7 @@ fn add_oriented(
 )
     requires { ⌜ Sized n (now out) (now marks) ⌝ }
     requires { ⌜ (row < n) × (col < n) ⌝ }
-    ensures { λ _. ⌜ now (out .exit) ≡ renewing (marked (now (marks .entry))) n (now (out .entry)) (oriented transposed (entry row col v ∷ [])) ⌝ }
+    ensures { λ _. ⌜ left out ≡ renewing (marked (passed marks)) n (passed out) (oriented transposed (entry row col v ∷ [])) ⌝ }
 {
     if transposed {
         add_named(out, n, marks, col, row, v);
@@ -69,7 +70,7 @@ fn add_row(
 )
     requires { ⌜ Sized n (now out) (now marks) ⌝ }
     requires { ⌜ (row < n) × AllBelow n (three t) ⌝ }
-    ensures { λ _. ⌜ now (out .exit) ≡ renewing (marked (now (marks .entry))) n (now (out .entry)) (oriented transposed (rowEntries row (three t) v 0)) ⌝ }
+    ensures { λ _. ⌜ left out ≡ renewing (marked (passed marks)) n (passed out) (oriented transposed (rowEntries row (three t) v 0)) ⌝ }
 {
     add_oriented(out, n, marks, row, t[0], v[0], transposed);
     add_oriented(out, n, marks, row, t[1], v[1], transposed);
@@ -88,7 +89,7 @@ pub fn scatter_triangle_block(
 )
     requires { ⌜ Sized n (now out) (now marks) ⌝ }
     requires { ⌜ AllBelow n (three s) × AllBelow n (three t) ⌝ }
-    ensures { λ _. ⌜ now (out .exit) ≡ renewing (marked (now (marks .entry))) n (now (out .entry)) (oriented transposed (blockEntries (three s) (three t) b 0)) ⌝ }
+    ensures { λ _. ⌜ left out ≡ renewing (marked (passed marks)) n (passed out) (oriented transposed (blockEntries (three s) (three t) b 0)) ⌝ }
 {
     add_row(out, n, marks, s[0], t, [b[0], b[1], b[2]], transposed);
     add_row(out, n, marks, s[1], t, [b[3], b[4], b[5]], transposed);
@@ -107,7 +108,7 @@ pub fn scatter_pair(
 )
     requires { ⌜ Sized n (now out) (now marks) ⌝ }
     requires { ⌜ AllBelow n (three s) × AllBelow n (three t) ⌝ }
-    ensures { λ _. ⌜ now (out .exit) ≡ renewing (marked (now (marks .entry))) n (now (out .entry)) (withTransposed same (blockEntries (three s) (three t) b 0)) ⌝ }
+    ensures { λ _. ⌜ left out ≡ renewing (marked (passed marks)) n (passed out) (withTransposed same (blockEntries (three s) (three t) b 0)) ⌝ }
 {
     scatter_triangle_block(out, n, marks, s, t, b, false);
     if !same {
@@ -118,7 +119,7 @@ pub fn scatter_pair(
 // One of the nodes of a panel is marked.
 pub fn touches(marks: &[bool], s: [usize; 3]) -> bool
     requires { ⌜ AllBelow (length (now marks)) (three s) ⌝ }
-    ensures { λ r. ⌜ r ≡ anyOf (marked (now (marks .entry))) (three s) ⌝ }
+    ensures { λ r. ⌜ r ≡ anyOf (marked (passed marks)) (three s) ⌝ }
 {
     marks[s[0]] | (marks[s[1]] | marks[s[2]])
 }
@@ -136,7 +137,7 @@ fn link(mark: bool, k: usize, above: usize) -> usize
 // For each place below n the first marked one from it up, n if there is none.
 pub fn link_marked(marks: &[bool], n: usize, links: &mut [usize])
     requires { ⌜ (n ≤ length (now marks)) × (n ≤ length (now links)) ⌝ }
-    ensures { λ _. ⌜ Linked 0 (marked (now (marks .entry))) n (now (links .exit)) ⌝ }
+    ensures { λ _. ⌜ Linked 0 (marked (passed marks)) n (left links) ⌝ }
 {
     let mut first = n;
     let mut k = n;
@@ -151,7 +152,7 @@ pub fn link_marked(marks: &[bool], n: usize, links: &mut [usize])
 pub fn next_named(marks: &[bool], links: &[usize], n: usize, row: usize, col: usize) -> usize
     requires { ⌜ (n ≤ length (now marks)) × (n ≤ length (now links)) ⌝ }
     requires { ⌜ (col < n → row < n) × Linked 0 (marked (now marks)) n (now links) ⌝ }
-    ensures { λ r. ⌜ r ≡ nextFrom (named (marked (now (marks .entry))) row) col (n - col) ⌝ }
+    ensures { λ r. ⌜ r ≡ nextFrom (named (marked (passed marks)) row) col (n - col) ⌝ }
 {
     if n <= col {
         return col;
@@ -166,7 +167,7 @@ pub fn next_named(marks: &[bool], links: &[usize], n: usize, row: usize, col: us
 fn clear_row(out: &mut [f64], n: usize, marks: &[bool], links: &[usize], row: usize)
     requires { ⌜ Sized n (now out) (now marks) ⌝ }
     requires { ⌜ (row < n) × (n ≤ length (now links)) × Linked 0 (marked (now marks)) n (now links) ⌝ }
-    ensures { λ _. ⌜ now (out .exit) ≡ run (now (out .entry)) (row * n) n (clearedIn (marked (now (marks .entry))) n (now (out .entry)) row) n ⌝ }
+    ensures { λ _. ⌜ left out ≡ run (passed out) (row * n) n (clearedIn (marked (passed marks)) n (passed out) row) n ⌝ }
 {
     let base = row * n;
     let mut col = next_named(marks, links, n, row, 0);
@@ -179,7 +180,7 @@ fn clear_row(out: &mut [f64], n: usize, marks: &[bool], links: &[usize], row: us
 // Named cells become +0.
 pub fn clear_named(out: &mut [f64], n: usize, marks: &[bool])
     requires { ⌜ Sized n (now out) (now marks) ⌝ }
-    ensures { λ _. ⌜ now (out .exit) ≡ renewed (marked (now (marks .entry))) (λ a b. plusZero) n (now (out .entry)) ⌝ }
+    ensures { λ _. ⌜ left out ≡ renewed (marked (passed marks)) (λ a b. plusZero) n (passed out) ⌝ }
 {
     let mut links: [usize; mesh::MAX_NODES] = [0; mesh::MAX_NODES];
     link_marked(marks, n, &mut links);
@@ -195,7 +196,7 @@ pub fn flag_panels(t0: &[usize], t1: &[usize], t2: &[usize], marks: &[bool], fla
     requires { ⌜ PanelColumnsAlike (meshOf [] [] [] (now t0) (now t1) (now t2)) ⌝ }
     requires { ⌜ IndicesBelow (length (now marks)) (meshOf [] [] [] (now t0) (now t1) (now t2)) ⌝ }
     requires { ⌜ length (now t0) ≤ length (now flags) ⌝ }
-    ensures { λ _. ⌜ Flagged (length (now (t0 .entry))) (meshOf [] [] [] (now (t0 .entry)) (now (t1 .entry)) (now (t2 .entry))) (now (marks .entry)) (now (flags .exit)) ⌝ }
+    ensures { λ _. ⌜ Flagged (length (passed t0)) (meshOf [] [] [] (passed t0) (passed t1) (passed t2)) (passed marks) (left flags) ⌝ }
 {
     let mut i = 0;
     while i < t0.len() {

@@ -1,8 +1,8 @@
 // The inductance matrix of a mesh, its energies, and the work with a given map.
 ghost use lib.ListN as List;
-ghost use Rattle.mesh.specs.Mesh.{meshOf};
+ghost use Rattle.lists.specs.Lent.{passed, left};
+ghost use Rattle.mesh.specs.Mesh.{passedMesh, leftMesh};
 ghost use Rattle.inductance.specs.Assembly.{Assembled};
-ghost use Rattle.linkage.specs.Answer.{Answered};
 ghost use Rattle.linkage.specs.Energy as Energy;
 ghost use Rattle.linkage.specs.Flux as Flux;
 ghost use Rattle.linkage.specs.Flux.{Linked};
@@ -22,7 +22,7 @@ pub extern "C" fn screens_mesh_inductance_matrix(
     t2: &[usize],
     out: &mut [f64],
 ) -> u32
-    ensures { λ r. ⌜ Assembled rule (meshOf (now (x .entry)) (now (y .entry)) (now (z .entry)) (now (t0 .entry)) (now (t1 .entry)) (now (t2 .entry))) (now (out .entry)) r (now (out .exit)) ⌝ }
+    ensures { λ r. ⌜ Assembled rule (passedMesh x y z t0 t1 t2) (passed out) r (left out) ⌝ }
 {
     inductance::triangle_mesh_inductance_matrix(rule, x, y, z, t0, t1, t2, out)
 }
@@ -35,7 +35,7 @@ pub extern "C" fn screens_mesh_inductance_from_potentials(
     t: &[f64],
     value: &mut f64,
 ) -> u32
-    ensures { λ r. ⌜ Answered (Energy.vectorsRefusal (List.length (now (s .entry))) (List.length (now (t .entry))) (List.length (now (matrix .entry)))) (Energy.fromPotentialVectors (now (matrix .entry)) (now (s .entry)) (now (t .entry))) r (now (value .exit)) ⌝ }
+    ensures { λ r. ⌜ Energy.VectorsAnswered (passed matrix) (passed s) (passed t) r (left value) ⌝ }
 {
     let answer = linkage::energy::triangle_mesh_inductance_from_potential_vectors(matrix, s, t);
     *value = answer.value;
@@ -45,7 +45,7 @@ pub extern "C" fn screens_mesh_inductance_from_potentials(
 // Half of the matrix between s and itself.
 #[no_mangle]
 pub extern "C" fn screens_mesh_inductive_energy(matrix: &[f64], s: &[f64], value: &mut f64) -> u32
-    ensures { λ r. ⌜ Answered (Energy.energyRefusal (List.length (now (s .entry))) (List.length (now (matrix .entry)))) (Energy.inductiveEnergy (now (matrix .entry)) (now (s .entry))) r (now (value .exit)) ⌝ }
+    ensures { λ r. ⌜ Energy.EnergyAnswered (passed matrix) (passed s) r (left value) ⌝ }
 {
     let answer = linkage::energy::triangle_mesh_inductive_energy(matrix, s);
     *value = answer.value;
@@ -59,7 +59,7 @@ pub extern "C" fn screens_mesh_flux_linkage(
     coefficients: &[f64],
     out: &mut [f64],
 ) -> u32
-    ensures { λ r. ⌜ Linked (now (map .entry)) (now (coefficients .entry)) (now (out .entry)) r (now (out .exit)) ⌝ }
+    ensures { λ r. ⌜ Linked (passed map) (passed coefficients) (passed out) r (left out) ⌝ }
 {
     linkage::flux::triangle_mesh_flux_linkage_from_source_coefficients(map, coefficients, out)
 }
@@ -72,7 +72,7 @@ pub extern "C" fn screens_mesh_interaction_energy(
     coefficients: &[f64],
     value: &mut f64,
 ) -> u32
-    ensures { λ r. ⌜ Answered (Flux.mapRefusal (List.length (now (map .entry))) (List.length (now (coefficients .entry))) (List.length (now (values .entry)))) (Flux.interactionEnergy (now (map .entry)) (now (values .entry)) (now (coefficients .entry))) r (now (value .exit)) ⌝ }
+    ensures { λ r. ⌜ Flux.InteractionAnswered (passed map) (passed values) (passed coefficients) r (left value) ⌝ }
 {
     let answer = linkage::flux::triangle_mesh_interaction_energy_from_source_coefficients(
         map,
@@ -92,7 +92,7 @@ pub extern "C" fn screens_matrix_row(
     offset: &mut usize,
     length: &mut usize,
 ) -> u32
-    ensures { λ r. ⌜ RowAt (Row.matrixRowRefusal (List.length (now (matrix .entry))) n node) n node r (now (offset .exit)) (now (length .exit)) ⌝ }
+    ensures { λ r. ⌜ RowAt (Row.matrixRowRefusal (List.length (passed matrix)) n node) n node r (left offset) (left length) ⌝ }
 {
     let refusal = linkage::row::triangle_mesh_matrix_row_refusal(matrix, n, node);
     if refusal != 0 {
@@ -114,7 +114,7 @@ pub extern "C" fn screens_map_row(
     offset: &mut usize,
     length: &mut usize,
 ) -> u32
-    ensures { λ r. ⌜ RowAt (Row.mapRowRefusal (List.length (now (map .entry))) sources node) sources node r (now (offset .exit)) (now (length .exit)) ⌝ }
+    ensures { λ r. ⌜ RowAt (Row.mapRowRefusal (List.length (passed map)) sources node) sources node r (left offset) (left length) ⌝ }
 {
     let refusal = linkage::row::triangle_mesh_map_row_refusal(map, sources, node);
     if refusal != 0 {
@@ -145,7 +145,7 @@ pub extern "C" fn screens_move_node(
     pz: f64,
     count: &mut usize,
 ) -> u32
-    ensures { λ r. ⌜ MovedBy rule (meshOf (now (x .entry)) (now (y .entry)) (now (z .entry)) (now (t0 .entry)) (now (t1 .entry)) (now (t2 .entry))) (now (matrix .entry)) node px py pz r (now (count .exit)) (meshOf (now (x .exit)) (now (y .exit)) (now (z .exit)) (now (t0 .entry)) (now (t1 .entry)) (now (t2 .entry))) (now (matrix .exit)) ⌝ }
+    ensures { λ r. ⌜ MovedBy rule (passedMesh x y z t0 t1 t2) (passed matrix) node px py pz r (left count) (leftMesh x y z t0 t1 t2) (left matrix) ⌝ }
 {
     let moved = node_move::move_node(rule, x, y, z, t0, t1, t2, matrix, node, px, py, pz);
     *count = moved.count;

@@ -1,12 +1,13 @@
 // The panel file's reader and the display value.
-ghost use Rattle.mesh.specs.Mesh.{meshOf, maxNodes, maxPanels};
+ghost use Rattle.lists.specs.Lent.{passed, left};
+ghost use Rattle.mesh.specs.Mesh.{maxNodes, maxPanels, passedMesh, writtenMesh};
 ghost use Rattle.panel_file.specs.PanelFile.{Read};
 ghost use Rattle.display.specs.Display.{Displayed};
 
 // Whole nanohenries; they go to the lent number, 0 on a refusal.
 #[no_mangle]
 pub extern "C" fn screens_display(x: f64, value: &mut i64) -> u32
-    ensures { λ r. ⌜ Displayed x r (now (value .exit)) ⌝ }
+    ensures { λ r. ⌜ Displayed x r (left value) ⌝ }
 {
     let shown = display::display(x);
     let nanohenries = shown.value;
@@ -25,7 +26,7 @@ pub extern "C" fn screens_read_panel_file(
     t1: &mut [usize],
     t2: &mut [usize],
 ) -> u32
-    ensures { λ r. ⌜ Read maxNodes maxPanels (now (file .entry)) (meshOf (now (x .entry)) (now (y .entry)) (now (z .entry)) (now (t0 .entry)) (now (t1 .entry)) (now (t2 .entry))) r (meshOf (now (x .exit)) (now (y .exit)) (now (z .exit)) (now (t0 .exit)) (now (t1 .exit)) (now (t2 .exit))) ⌝ }
+    ensures { λ r. ⌜ Read maxNodes maxPanels (passed file) (passedMesh x y z t0 t1 t2) r (writtenMesh x y z t0 t1 t2) ⌝ }
 {
     panel_file::read_panel_file(file, x, y, z, t0, t1, t2)
 }

@@ -1,9 +1,9 @@
 // Meshes of six columns: the coordinates x, y, z of the nodes, and for each panel the nodes t0, t1, t2 of its corners.
-ghost use Rattle.tri.specs.Quadrature.{quadratureRule};
-ghost use Rattle.mesh.specs.Mesh.{meshOf};
+ghost use Rattle.lists.specs.Lent.{passed, left};
+ghost use Rattle.mesh.specs.Mesh.{passedMesh};
 ghost use Rattle.mesh.specs.Conditions.{Tested};
 ghost use Rattle.boundary_element.specs.CurrentDensity.{Densities};
-ghost use Rattle.boundary_element.specs.QuadraturePoints.{Points};
+ghost use Rattle.boundary_element.specs.QuadraturePoints.{PointsBy};
 use boundary_element::current_density;
 use boundary_element::quadrature_points;
 
@@ -18,7 +18,7 @@ pub extern "C" fn screens_mesh_test(
     t2: &[usize],
     poor: &mut usize,
 ) -> u32
-    ensures { λ r. ⌜ Tested (meshOf (now (x .entry)) (now (y .entry)) (now (z .entry)) (now (t0 .entry)) (now (t1 .entry)) (now (t2 .entry))) r (now (poor .exit)) ⌝ }
+    ensures { λ r. ⌜ Tested (passedMesh x y z t0 t1 t2) r (left poor) ⌝ }
 {
     let tested = mesh::validate_triangle_mesh_geometry(x, y, z, t0, t1, t2);
     *poor = tested.poor;
@@ -39,7 +39,7 @@ pub extern "C" fn screens_mesh_current_density(
     jy: &mut [f64],
     jz: &mut [f64],
 ) -> u32
-    ensures { λ r. ⌜ Densities (meshOf (now (x .entry)) (now (y .entry)) (now (z .entry)) (now (t0 .entry)) (now (t1 .entry)) (now (t2 .entry))) (now (s .entry)) (now (jx .entry)) (now (jy .entry)) (now (jz .entry)) r (now (jx .exit)) (now (jy .exit)) (now (jz .exit)) ⌝ }
+    ensures { λ r. ⌜ Densities (passedMesh x y z t0 t1 t2) (passed s) (passed jx) (passed jy) (passed jz) r (left jx) (left jy) (left jz) ⌝ }
 {
     current_density::triangle_mesh_current_density(x, y, z, t0, t1, t2, s, jx, jy, jz)
 }
@@ -59,7 +59,7 @@ pub extern "C" fn screens_mesh_quadrature_points(
     pz: &mut [f64],
     pw: &mut [f64],
 ) -> u32
-    ensures { λ r. ⌜ Points (quadratureRule rule) (meshOf (now (x .entry)) (now (y .entry)) (now (z .entry)) (now (t0 .entry)) (now (t1 .entry)) (now (t2 .entry))) (now (px .entry)) (now (py .entry)) (now (pz .entry)) (now (pw .entry)) r (now (px .exit)) (now (py .exit)) (now (pz .exit)) (now (pw .exit)) ⌝ }
+    ensures { λ r. ⌜ PointsBy rule (passedMesh x y z t0 t1 t2) (passed px) (passed py) (passed pz) (passed pw) r (left px) (left py) (left pz) (left pw) ⌝ }
 {
     quadrature_points::triangle_mesh_quadrature_points(rule, x, y, z, t0, t1, t2, px, py, pz, pw)
 }

@@ -1,151 +1,58 @@
-// Two panels, source and target, by the coordinates of their corners: source a, b and c, target d, e and f.
+// Two panels, source and target, each by the nine coordinates of its corners.
 ghost use mathlib.Core.Path.{_≡_};
-ghost use mathlib.Core.List.{[], _∷_, _++_};
-ghost use lib.ListN.{getD};
+ghost use Rattle.lists.specs.Lent.{passed, left};
 ghost use Rattle.panel_distance.specs.Bisection as Bisection;
 ghost use Rattle.coupling.specs.Block as Block;
 ghost use Rattle.coupling.specs.Calls as Calls;
 ghost use Rattle.coupling.specs.Coupling as Coupling;
 ghost use Rattle.panel_distance.specs.Distance as Distance;
-ghost use Rattle.lent_numbers.specs.Numbers.{halvesOf, Wrote};
+ghost use Rattle.lent_numbers.specs.Numbers.{halvesOf};
 ghost use Rattle.screens_panels.specs.Screens.{vector, triangle, Valued, WroteBlock};
 use lent_numbers::eighteen;
+use panel_points::three;
 
 #[no_mangle]
-pub extern "C" fn screens_triangle_distance_squared(
-    a0: f64,
-    a1: f64,
-    a2: f64,
-    b0: f64,
-    b1: f64,
-    b2: f64,
-    c0: f64,
-    c1: f64,
-    c2: f64,
-    d0: f64,
-    d1: f64,
-    d2: f64,
-    e0: f64,
-    e1: f64,
-    e2: f64,
-    f0: f64,
-    f1: f64,
-    f2: f64,
-) -> f64
-    ensures { λ r. ⌜ r ≡ Distance.triangleDistanceSquared (triangle a0 a1 a2 b0 b1 b2 c0 c1 c2) (triangle d0 d1 d2 e0 e1 e2 f0 f1 f2) ⌝ }
+pub extern "C" fn screens_triangle_distance_squared(source: &[f64; 9], target: &[f64; 9]) -> f64
+    ensures { λ r. ⌜ r ≡ Distance.triangleDistanceSquared (triangle source) (triangle target) ⌝ }
 {
-    panel_distance::distance::triangle_distance_squared(
-        [[a0, a1, a2], [b0, b1, b2], [c0, c1, c2]],
-        [[d0, d1, d2], [e0, e1, e2], [f0, f1, f2]],
-    )
+    panel_distance::distance::triangle_distance_squared(three(*source), three(*target))
 }
 
 #[no_mangle]
 pub extern "C" fn screens_triangle_aabb_distance_squared(
-    a0: f64,
-    a1: f64,
-    a2: f64,
-    b0: f64,
-    b1: f64,
-    b2: f64,
-    c0: f64,
-    c1: f64,
-    c2: f64,
-    d0: f64,
-    d1: f64,
-    d2: f64,
-    e0: f64,
-    e1: f64,
-    e2: f64,
-    f0: f64,
-    f1: f64,
-    f2: f64,
+    source: &[f64; 9],
+    target: &[f64; 9],
 ) -> f64
-    ensures { λ r. ⌜ r ≡ Distance.triangleAabbDistanceSquared (triangle a0 a1 a2 b0 b1 b2 c0 c1 c2) (triangle d0 d1 d2 e0 e1 e2 f0 f1 f2) ⌝ }
+    ensures { λ r. ⌜ r ≡ Distance.triangleAabbDistanceSquared (triangle source) (triangle target) ⌝ }
 {
-    panel_distance::distance::triangle_aabb_distance_squared(
-        [[a0, a1, a2], [b0, b1, b2], [c0, c1, c2]],
-        [[d0, d1, d2], [e0, e1, e2], [f0, f1, f2]],
-    )
+    panel_distance::distance::triangle_aabb_distance_squared(three(*source), three(*target))
 }
 
 #[no_mangle]
-pub extern "C" fn screens_triangle_max_edge_squared(
-    a0: f64,
-    a1: f64,
-    a2: f64,
-    b0: f64,
-    b1: f64,
-    b2: f64,
-    c0: f64,
-    c1: f64,
-    c2: f64,
-) -> f64
-    ensures { λ r. ⌜ r ≡ Distance.triangleMaxEdgeSquared (triangle a0 a1 a2 b0 b1 b2 c0 c1 c2) ⌝ }
+pub extern "C" fn screens_triangle_max_edge_squared(t: &[f64; 9]) -> f64
+    ensures { λ r. ⌜ r ≡ Distance.triangleMaxEdgeSquared (triangle t) ⌝ }
 {
-    panel_distance::distance::triangle_max_edge_squared([[a0, a1, a2], [b0, b1, b2], [c0, c1, c2]])
+    panel_distance::distance::triangle_max_edge_squared(three(*t))
 }
 
 #[no_mangle]
-pub extern "C" fn screens_is_far(
-    a0: f64,
-    a1: f64,
-    a2: f64,
-    b0: f64,
-    b1: f64,
-    b2: f64,
-    c0: f64,
-    c1: f64,
-    c2: f64,
-    d0: f64,
-    d1: f64,
-    d2: f64,
-    e0: f64,
-    e1: f64,
-    e2: f64,
-    f0: f64,
-    f1: f64,
-    f2: f64,
-) -> bool
-    ensures { λ r. ⌜ r ≡ Coupling.isFar (triangle a0 a1 a2 b0 b1 b2 c0 c1 c2) (triangle d0 d1 d2 e0 e1 e2 f0 f1 f2) ⌝ }
+pub extern "C" fn screens_is_far(source: &[f64; 9], target: &[f64; 9]) -> bool
+    ensures { λ r. ⌜ r ≡ Coupling.isFar (triangle source) (triangle target) ⌝ }
 {
-    coupling::coupling::is_far(
-        [[a0, a1, a2], [b0, b1, b2], [c0, c1, c2]],
-        [[d0, d1, d2], [e0, e1, e2], [f0, f1, f2]],
-    )
+    coupling::coupling::is_far(three(*source), three(*target))
 }
 
 // The geometric coupling; it goes to the lent number, 0 on a refusal, as every value below.
 #[no_mangle]
 pub extern "C" fn screens_coupling(
     rule: u32,
-    a0: f64,
-    a1: f64,
-    a2: f64,
-    b0: f64,
-    b1: f64,
-    b2: f64,
-    c0: f64,
-    c1: f64,
-    c2: f64,
-    d0: f64,
-    d1: f64,
-    d2: f64,
-    e0: f64,
-    e1: f64,
-    e2: f64,
-    f0: f64,
-    f1: f64,
-    f2: f64,
+    source: &[f64; 9],
+    target: &[f64; 9],
     value: &mut f64,
 ) -> u32
-    ensures { λ r. ⌜ Valued (Calls.triangleGeometricCoupling rule (triangle a0 a1 a2 b0 b1 b2 c0 c1 c2) (triangle d0 d1 d2 e0 e1 e2 f0 f1 f2)) r (now (value .exit)) ⌝ }
+    ensures { λ r. ⌜ Valued (Calls.triangleGeometricCoupling rule (triangle source) (triangle target)) r (left value) ⌝ }
 {
-    let answer = coupling::calls::triangle_geometric_coupling(
-        rule,
-        [[a0, a1, a2], [b0, b1, b2], [c0, c1, c2]],
-        [[d0, d1, d2], [e0, e1, e2], [f0, f1, f2]],
-    );
+    let answer = coupling::calls::triangle_geometric_coupling(rule, three(*source), three(*target));
     *value = answer.value;
     answer.refusal
 }
@@ -153,32 +60,16 @@ pub extern "C" fn screens_coupling(
 #[no_mangle]
 pub extern "C" fn screens_coupling_regular(
     rule: u32,
-    a0: f64,
-    a1: f64,
-    a2: f64,
-    b0: f64,
-    b1: f64,
-    b2: f64,
-    c0: f64,
-    c1: f64,
-    c2: f64,
-    d0: f64,
-    d1: f64,
-    d2: f64,
-    e0: f64,
-    e1: f64,
-    e2: f64,
-    f0: f64,
-    f1: f64,
-    f2: f64,
+    source: &[f64; 9],
+    target: &[f64; 9],
     value: &mut f64,
 ) -> u32
-    ensures { λ r. ⌜ Valued (Calls.triangleGeometricCouplingRegular rule (triangle a0 a1 a2 b0 b1 b2 c0 c1 c2) (triangle d0 d1 d2 e0 e1 e2 f0 f1 f2)) r (now (value .exit)) ⌝ }
+    ensures { λ r. ⌜ Valued (Calls.triangleGeometricCouplingRegular rule (triangle source) (triangle target)) r (left value) ⌝ }
 {
     let answer = coupling::calls::triangle_geometric_coupling_regular(
         rule,
-        [[a0, a1, a2], [b0, b1, b2], [c0, c1, c2]],
-        [[d0, d1, d2], [e0, e1, e2], [f0, f1, f2]],
+        three(*source),
+        three(*target),
     );
     *value = answer.value;
     answer.refusal
@@ -188,35 +79,19 @@ pub extern "C" fn screens_coupling_regular(
 #[no_mangle]
 pub extern "C" fn screens_mutual_inductance(
     rule: u32,
-    a0: f64,
-    a1: f64,
-    a2: f64,
-    b0: f64,
-    b1: f64,
-    b2: f64,
-    c0: f64,
-    c1: f64,
-    c2: f64,
+    source: &[f64; 9],
     i: usize,
-    d0: f64,
-    d1: f64,
-    d2: f64,
-    e0: f64,
-    e1: f64,
-    e2: f64,
-    f0: f64,
-    f1: f64,
-    f2: f64,
+    target: &[f64; 9],
     j: usize,
     value: &mut f64,
 ) -> u32
-    ensures { λ r. ⌜ Valued (Calls.triangleBasisMutualInductance rule (triangle a0 a1 a2 b0 b1 b2 c0 c1 c2) i (triangle d0 d1 d2 e0 e1 e2 f0 f1 f2) j) r (now (value .exit)) ⌝ }
+    ensures { λ r. ⌜ Valued (Calls.triangleBasisMutualInductance rule (triangle source) i (triangle target) j) r (left value) ⌝ }
 {
     let answer = coupling::calls::triangle_basis_mutual_inductance(
         rule,
-        [[a0, a1, a2], [b0, b1, b2], [c0, c1, c2]],
+        three(*source),
         i,
-        [[d0, d1, d2], [e0, e1, e2], [f0, f1, f2]],
+        three(*target),
         j,
     );
     *value = answer.value;
@@ -227,90 +102,41 @@ pub extern "C" fn screens_mutual_inductance(
 #[no_mangle]
 pub extern "C" fn screens_mutual_inductance_block(
     rule: u32,
-    a0: f64,
-    a1: f64,
-    a2: f64,
-    b0: f64,
-    b1: f64,
-    b2: f64,
-    c0: f64,
-    c1: f64,
-    c2: f64,
-    d0: f64,
-    d1: f64,
-    d2: f64,
-    e0: f64,
-    e1: f64,
-    e2: f64,
-    f0: f64,
-    f1: f64,
-    f2: f64,
-    out: &mut [f64],
+    source: &[f64; 9],
+    target: &[f64; 9],
+    out: &mut [f64; 9],
 ) -> u32
-    ensures { λ r. ⌜ WroteBlock (Calls.triangleBasisMutualInductanceBlock rule (triangle a0 a1 a2 b0 b1 b2 c0 c1 c2) (triangle d0 d1 d2 e0 e1 e2 f0 f1 f2)) (now (out .entry)) r (now (out .exit)) ⌝ }
+    ensures { λ r. ⌜ WroteBlock (Calls.triangleBasisMutualInductanceBlock rule (triangle source) (triangle target)) (passed out) r (left out) ⌝ }
 {
     let answer = coupling::calls::triangle_basis_mutual_inductance_block(
         rule,
-        [[a0, a1, a2], [b0, b1, b2], [c0, c1, c2]],
-        [[d0, d1, d2], [e0, e1, e2], [f0, f1, f2]],
+        three(*source),
+        three(*target),
     );
     if answer.refusal != 0 {
         return answer.refusal;
     }
     let values = answer.values;
-    lent_numbers::write9(values, out)
+    *out = values;
+    0
 }
 
 // A block of nine numbers, row by row, between the values s of the source and t of the target.
 #[no_mangle]
 pub extern "C" fn screens_inductance_from_potentials(
-    m0: f64,
-    m1: f64,
-    m2: f64,
-    m3: f64,
-    m4: f64,
-    m5: f64,
-    m6: f64,
-    m7: f64,
-    m8: f64,
-    s0: f64,
-    s1: f64,
-    s2: f64,
-    t0: f64,
-    t1: f64,
-    t2: f64,
+    block: &[f64; 9],
+    s: &[f64; 3],
+    t: &[f64; 3],
 ) -> f64
-    ensures { λ r. ⌜ r ≡ Block.inductanceFromPotentialVectors (m0 ∷ m1 ∷ m2 ∷ m3 ∷ m4 ∷ m5 ∷ m6 ∷ m7 ∷ m8 ∷ []) (vector s0 s1 s2) (vector t0 t1 t2) ⌝ }
+    ensures { λ r. ⌜ r ≡ Block.inductanceFromPotentialVectors (passed block) (vector s) (vector t) ⌝ }
 {
-    coupling::block::triangle_inductance_from_potential_vectors(
-        [m0, m1, m2, m3, m4, m5, m6, m7, m8],
-        [s0, s1, s2],
-        [t0, t1, t2],
-    )
+    coupling::block::triangle_inductance_from_potential_vectors(*block, *s, *t)
 }
 
 // The halves of a triangle at its longest edge.
 #[no_mangle]
-pub extern "C" fn screens_longest_edge_bisection(
-    a0: f64,
-    a1: f64,
-    a2: f64,
-    b0: f64,
-    b1: f64,
-    b2: f64,
-    c0: f64,
-    c1: f64,
-    c2: f64,
-    out: &mut [f64],
-) -> u32
-    ensures { λ r. ⌜ Wrote 18 (halvesOf (Bisection.longestEdgeBisection (triangle a0 a1 a2 b0 b1 b2 c0 c1 c2))) (now (out .entry)) r (now (out .exit)) ⌝ }
+pub extern "C" fn screens_longest_edge_bisection(t: &[f64; 9], out: &mut [f64; 18])
+    ensures { λ _. ⌜ left out ≡ halvesOf (Bisection.longestEdgeBisection (triangle t)) ⌝ }
 {
-    lent_numbers::write18(
-        eighteen(panel_distance::bisection::longest_edge_bisection([
-            [a0, a1, a2],
-            [b0, b1, b2],
-            [c0, c1, c2],
-        ])),
-        out,
-    )
+    *out = eighteen(panel_distance::bisection::longest_edge_bisection(three(*t)));
 }

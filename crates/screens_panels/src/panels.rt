@@ -1,5 +1,6 @@
-// One panel, by the coordinates of its corners.
+// One panel, by the nine coordinates of its corners.
 ghost use mathlib.Core.Path.{_≡_};
+ghost use Rattle.lists.specs.Lent.{left};
 ghost use Rattle.tri.specs.Mapping as Mapping;
 ghost use Rattle.tri.specs.Tri3 as Tri3;
 ghost use Rattle.potential.specs.Potential as Potential;
@@ -7,293 +8,106 @@ ghost use Rattle.mesh.specs.Mesh as Mesh;
 ghost use Rattle.boundary_element.specs.CurrentDensity as Density;
 ghost use Rattle.boundary_element.specs.Identity as Identity;
 ghost use Rattle.panel_points.specs.Points.{coordinates};
-ghost use Rattle.lent_numbers.specs.Numbers.{recordNumbers, Wrote};
+ghost use Rattle.lent_numbers.specs.Numbers.{recordNumbers};
 ghost use Rattle.screens_panels.specs.Screens.{vector, triangle};
 use boundary_element::current_density;
 use lent_numbers::record_numbers;
 use panel_points::nine;
+use panel_points::three;
 use potential::UniformTriangle;
 
-// The area of the triangle with corners a, b and c.
+// The triangle's area.
 #[no_mangle]
-pub extern "C" fn screens_area(
-    a0: f64,
-    a1: f64,
-    a2: f64,
-    b0: f64,
-    b1: f64,
-    b2: f64,
-    c0: f64,
-    c1: f64,
-    c2: f64,
-) -> f64
-    ensures { λ r. ⌜ r ≡ Mapping.area (triangle a0 a1 a2 b0 b1 b2 c0 c1 c2) ⌝ }
+pub extern "C" fn screens_area(t: &[f64; 9]) -> f64
+    ensures { λ r. ⌜ r ≡ Mapping.area (triangle t) ⌝ }
 {
-    tri::mapping::area([[a0, a1, a2], [b0, b1, b2], [c0, c1, c2]])
+    tri::mapping::area(three(*t))
 }
 
 // Its unit normal.
 #[no_mangle]
-pub extern "C" fn screens_normal(
-    a0: f64,
-    a1: f64,
-    a2: f64,
-    b0: f64,
-    b1: f64,
-    b2: f64,
-    c0: f64,
-    c1: f64,
-    c2: f64,
-    out: &mut [f64],
-) -> u32
-    ensures { λ r. ⌜ Wrote 3 (Mapping.normal (triangle a0 a1 a2 b0 b1 b2 c0 c1 c2)) (now (out .entry)) r (now (out .exit)) ⌝ }
+pub extern "C" fn screens_normal(t: &[f64; 9], out: &mut [f64; 3])
+    ensures { λ _. ⌜ left out ≡ Mapping.normal (triangle t) ⌝ }
 {
-    lent_numbers::write3(
-        tri::mapping::normal([[a0, a1, a2], [b0, b1, b2], [c0, c1, c2]]),
-        out,
-    )
+    *out = tri::mapping::normal(three(*t));
 }
 
 // Its point at (u, v) of the reference triangle.
 #[no_mangle]
-pub extern "C" fn screens_map_point(
-    a0: f64,
-    a1: f64,
-    a2: f64,
-    b0: f64,
-    b1: f64,
-    b2: f64,
-    c0: f64,
-    c1: f64,
-    c2: f64,
-    u: f64,
-    v: f64,
-    out: &mut [f64],
-) -> u32
-    ensures { λ r. ⌜ Wrote 3 (Mapping.mapPoint (triangle a0 a1 a2 b0 b1 b2 c0 c1 c2) u v) (now (out .entry)) r (now (out .exit)) ⌝ }
+pub extern "C" fn screens_map_point(t: &[f64; 9], u: f64, v: f64, out: &mut [f64; 3])
+    ensures { λ _. ⌜ left out ≡ Mapping.mapPoint (triangle t) u v ⌝ }
 {
-    lent_numbers::write3(
-        tri::mapping::map_point([[a0, a1, a2], [b0, b1, b2], [c0, c1, c2]], u, v),
-        out,
-    )
+    *out = tri::mapping::map_point(three(*t), u, v);
 }
 
-// Its point closest to (x, y, z).
+// Its point closest to another.
 #[no_mangle]
-pub extern "C" fn screens_closest_point(
-    x: f64,
-    y: f64,
-    z: f64,
-    a0: f64,
-    a1: f64,
-    a2: f64,
-    b0: f64,
-    b1: f64,
-    b2: f64,
-    c0: f64,
-    c1: f64,
-    c2: f64,
-    out: &mut [f64],
-) -> u32
-    ensures { λ r. ⌜ Wrote 3 (Tri3.closestPoint (vector x y z) (triangle a0 a1 a2 b0 b1 b2 c0 c1 c2)) (now (out .entry)) r (now (out .exit)) ⌝ }
+pub extern "C" fn screens_closest_point(point: &[f64; 3], t: &[f64; 9], out: &mut [f64; 3])
+    ensures { λ _. ⌜ left out ≡ Tri3.closestPoint (vector point) (triangle t) ⌝ }
 {
-    lent_numbers::write3(
-        tri::tri3::closest_point([x, y, z], [[a0, a1, a2], [b0, b1, b2], [c0, c1, c2]]),
-        out,
-    )
+    *out = tri::tri3::closest_point(*point, three(*t));
 }
 
-// The potential at (x, y, z) of the triangle with corners a, b and c.
+// The triangle's potential at a point.
 #[no_mangle]
-pub extern "C" fn screens_potential(
-    a0: f64,
-    a1: f64,
-    a2: f64,
-    b0: f64,
-    b1: f64,
-    b2: f64,
-    c0: f64,
-    c1: f64,
-    c2: f64,
-    x: f64,
-    y: f64,
-    z: f64,
-) -> f64
-    ensures { λ r. ⌜ r ≡ Potential.scalarPotential (Potential.uniformTriangle (triangle a0 a1 a2 b0 b1 b2 c0 c1 c2)) (vector x y z) ⌝ }
+pub extern "C" fn screens_potential(t: &[f64; 9], point: &[f64; 3]) -> f64
+    ensures { λ r. ⌜ r ≡ Potential.scalarPotential (Potential.uniformTriangle (triangle t)) (vector point) ⌝ }
 {
-    UniformTriangle::new([[a0, a1, a2], [b0, b1, b2], [c0, c1, c2]]).scalar_potential([x, y, z])
+    UniformTriangle::new(three(*t)).scalar_potential(*point)
 }
 
 // The gradient of that potential.
 #[no_mangle]
-pub extern "C" fn screens_gradient(
-    a0: f64,
-    a1: f64,
-    a2: f64,
-    b0: f64,
-    b1: f64,
-    b2: f64,
-    c0: f64,
-    c1: f64,
-    c2: f64,
-    x: f64,
-    y: f64,
-    z: f64,
-    out: &mut [f64],
-) -> u32
-    ensures { λ r. ⌜ Wrote 3 (Potential.scalarPotentialGradient (Potential.uniformTriangle (triangle a0 a1 a2 b0 b1 b2 c0 c1 c2)) (vector x y z)) (now (out .entry)) r (now (out .exit)) ⌝ }
+pub extern "C" fn screens_gradient(t: &[f64; 9], point: &[f64; 3], out: &mut [f64; 3])
+    ensures { λ _. ⌜ left out ≡ Potential.scalarPotentialGradient (Potential.uniformTriangle (triangle t)) (vector point) ⌝ }
 {
-    lent_numbers::write3(
-        UniformTriangle::new([[a0, a1, a2], [b0, b1, b2], [c0, c1, c2]]).scalar_potential_gradient([
-            x,
-            y,
-            z,
-        ]),
-        out,
-    )
+    *out = UniformTriangle::new(three(*t)).scalar_potential_gradient(*point);
 }
 
-// Whether (x, y, z) lies on the triangle, within the tolerance of the original.
+// Whether a point lies on the triangle, within the tolerance of the original.
 #[no_mangle]
-pub extern "C" fn screens_contact(
-    a0: f64,
-    a1: f64,
-    a2: f64,
-    b0: f64,
-    b1: f64,
-    b2: f64,
-    c0: f64,
-    c1: f64,
-    c2: f64,
-    x: f64,
-    y: f64,
-    z: f64,
-) -> bool
-    ensures { λ r. ⌜ r ≡ Potential.containsOnSurface (Potential.uniformTriangle (triangle a0 a1 a2 b0 b1 b2 c0 c1 c2)) (vector x y z) ⌝ }
+pub extern "C" fn screens_contact(t: &[f64; 9], point: &[f64; 3]) -> bool
+    ensures { λ r. ⌜ r ≡ Potential.containsOnSurface (Potential.uniformTriangle (triangle t)) (vector point) ⌝ }
 {
-    UniformTriangle::new([[a0, a1, a2], [b0, b1, b2], [c0, c1, c2]]).contains_on_surface([x, y, z])
+    UniformTriangle::new(three(*t)).contains_on_surface(*point)
 }
 
 // 1 for equal edges, towards 0 for a sliver.
 #[no_mangle]
-pub extern "C" fn screens_quality(
-    a0: f64,
-    a1: f64,
-    a2: f64,
-    b0: f64,
-    b1: f64,
-    b2: f64,
-    c0: f64,
-    c1: f64,
-    c2: f64,
-) -> f64
-    ensures { λ r. ⌜ r ≡ Mesh.quality (triangle a0 a1 a2 b0 b1 b2 c0 c1 c2) ⌝ }
+pub extern "C" fn screens_quality(t: &[f64; 9]) -> f64
+    ensures { λ r. ⌜ r ≡ Mesh.quality (triangle t) ⌝ }
 {
-    mesh::triangle_quality([[a0, a1, a2], [b0, b1, b2], [c0, c1, c2]])
+    mesh::triangle_quality(three(*t))
 }
 
 // The panel's record: corners, normal, edge tangents, outward edges, edge lengths, longest edge.
 #[no_mangle]
-pub extern "C" fn screens_record(
-    a0: f64,
-    a1: f64,
-    a2: f64,
-    b0: f64,
-    b1: f64,
-    b2: f64,
-    c0: f64,
-    c1: f64,
-    c2: f64,
-    out: &mut [f64],
-) -> u32
-    ensures { λ r. ⌜ Wrote 34 (recordNumbers (Potential.uniformTriangle (triangle a0 a1 a2 b0 b1 b2 c0 c1 c2))) (now (out .entry)) r (now (out .exit)) ⌝ }
+pub extern "C" fn screens_record(t: &[f64; 9], out: &mut [f64; 34])
+    ensures { λ _. ⌜ left out ≡ recordNumbers (Potential.uniformTriangle (triangle t)) ⌝ }
 {
-    lent_numbers::write34(
-        record_numbers(UniformTriangle::new([[a0, a1, a2], [b0, b1, b2], [c0, c1, c2]])),
-        out,
-    )
+    *out = record_numbers(UniformTriangle::new(three(*t)));
 }
 
 // The current densities of a unit value at each corner, corner after corner.
 #[no_mangle]
-pub extern "C" fn screens_basis_current_densities(
-    a0: f64,
-    a1: f64,
-    a2: f64,
-    b0: f64,
-    b1: f64,
-    b2: f64,
-    c0: f64,
-    c1: f64,
-    c2: f64,
-    out: &mut [f64],
-) -> u32
-    ensures { λ r. ⌜ Wrote 9 (coordinates (Density.triangleBasisCurrentDensities (triangle a0 a1 a2 b0 b1 b2 c0 c1 c2))) (now (out .entry)) r (now (out .exit)) ⌝ }
+pub extern "C" fn screens_basis_current_densities(t: &[f64; 9], out: &mut [f64; 9])
+    ensures { λ _. ⌜ left out ≡ coordinates (Density.triangleBasisCurrentDensities (triangle t)) ⌝ }
 {
-    lent_numbers::write9(
-        nine(current_density::triangle_basis_current_densities([
-            [a0, a1, a2],
-            [b0, b1, b2],
-            [c0, c1, c2],
-        ])),
-        out,
-    )
+    *out = nine(current_density::triangle_basis_current_densities(three(*t)));
 }
 
 // The current density of the values s at the corners.
 #[no_mangle]
-pub extern "C" fn screens_current_density(
-    a0: f64,
-    a1: f64,
-    a2: f64,
-    b0: f64,
-    b1: f64,
-    b2: f64,
-    c0: f64,
-    c1: f64,
-    c2: f64,
-    s0: f64,
-    s1: f64,
-    s2: f64,
-    out: &mut [f64],
-) -> u32
-    ensures { λ r. ⌜ Wrote 3 (Density.triangleCurrentDensity (triangle a0 a1 a2 b0 b1 b2 c0 c1 c2) (vector s0 s1 s2)) (now (out .entry)) r (now (out .exit)) ⌝ }
+pub extern "C" fn screens_current_density(t: &[f64; 9], s: &[f64; 3], out: &mut [f64; 3])
+    ensures { λ _. ⌜ left out ≡ Density.triangleCurrentDensity (triangle t) (vector s) ⌝ }
 {
-    lent_numbers::write3(
-        current_density::triangle_current_density(
-            [[a0, a1, a2], [b0, b1, b2], [c0, c1, c2]],
-            [s0, s1, s2],
-        ),
-        out,
-    )
+    *out = current_density::triangle_current_density(three(*t), *s);
 }
 
-// Whether each corner of the first triangle, a, b and c, is within the tolerance of some corner of the second, d, e and f.
+// Whether each corner of the source is within the tolerance of some corner of the target.
 #[no_mangle]
-pub extern "C" fn screens_triangles_identical(
-    a0: f64,
-    a1: f64,
-    a2: f64,
-    b0: f64,
-    b1: f64,
-    b2: f64,
-    c0: f64,
-    c1: f64,
-    c2: f64,
-    d0: f64,
-    d1: f64,
-    d2: f64,
-    e0: f64,
-    e1: f64,
-    e2: f64,
-    f0: f64,
-    f1: f64,
-    f2: f64,
-) -> bool
-    ensures { λ r. ⌜ r ≡ Identity.trianglesIdentical (triangle a0 a1 a2 b0 b1 b2 c0 c1 c2) (triangle d0 d1 d2 e0 e1 e2 f0 f1 f2) ⌝ }
+pub extern "C" fn screens_triangles_identical(source: &[f64; 9], target: &[f64; 9]) -> bool
+    ensures { λ r. ⌜ r ≡ Identity.trianglesIdentical (triangle source) (triangle target) ⌝ }
 {
-    boundary_element::identity::triangles_identical(
-        [[a0, a1, a2], [b0, b1, b2], [c0, c1, c2]],
-        [[d0, d1, d2], [e0, e1, e2], [f0, f1, f2]],
-    )
+    boundary_element::identity::triangles_identical(three(*source), three(*target))
 }

@@ -1,94 +1,61 @@
-// Vectors, by their coordinates.
+// Vectors of three numbers.
 ghost use mathlib.Core.Path.{_≡_};
+ghost use Rattle.lists.specs.Lent.{left};
 ghost use Rattle.math.specs.Math as Math;
-ghost use Rattle.lent_numbers.specs.Numbers.{Wrote};
 ghost use Rattle.screens_panels.specs.Screens.{vector};
 
 #[no_mangle]
-pub extern "C" fn screens_dot3(a0: f64, a1: f64, a2: f64, b0: f64, b1: f64, b2: f64) -> f64
-    ensures { λ r. ⌜ r ≡ Math.dot3 (vector a0 a1 a2) (vector b0 b1 b2) ⌝ }
+pub extern "C" fn screens_dot3(a: &[f64; 3], b: &[f64; 3]) -> f64
+    ensures { λ r. ⌜ r ≡ Math.dot3 (vector a) (vector b) ⌝ }
 {
-    math::dot3([a0, a1, a2], [b0, b1, b2])
+    math::dot3(*a, *b)
 }
 
 #[no_mangle]
-pub extern "C" fn screens_norm3(a0: f64, a1: f64, a2: f64) -> f64
-    ensures { λ r. ⌜ r ≡ Math.norm3 (vector a0 a1 a2) ⌝ }
+pub extern "C" fn screens_norm3(a: &[f64; 3]) -> f64
+    ensures { λ r. ⌜ r ≡ Math.norm3 (vector a) ⌝ }
 {
-    math::norm3([a0, a1, a2])
+    math::norm3(*a)
 }
 
 #[no_mangle]
-pub extern "C" fn screens_cross3(
-    a0: f64,
-    a1: f64,
-    a2: f64,
-    b0: f64,
-    b1: f64,
-    b2: f64,
-    out: &mut [f64],
-) -> u32
-    ensures { λ r. ⌜ Wrote 3 (Math.cross3 (vector a0 a1 a2) (vector b0 b1 b2)) (now (out .entry)) r (now (out .exit)) ⌝ }
+pub extern "C" fn screens_cross3(a: &[f64; 3], b: &[f64; 3], out: &mut [f64; 3])
+    ensures { λ _. ⌜ left out ≡ Math.cross3 (vector a) (vector b) ⌝ }
 {
-    lent_numbers::write3(math::cross3([a0, a1, a2], [b0, b1, b2]), out)
+    *out = math::cross3(*a, *b);
 }
 
 #[no_mangle]
-pub extern "C" fn screens_sub3(
-    a0: f64,
-    a1: f64,
-    a2: f64,
-    b0: f64,
-    b1: f64,
-    b2: f64,
-    out: &mut [f64],
-) -> u32
-    ensures { λ r. ⌜ Wrote 3 (Math.sub3 (vector a0 a1 a2) (vector b0 b1 b2)) (now (out .entry)) r (now (out .exit)) ⌝ }
+pub extern "C" fn screens_sub3(a: &[f64; 3], b: &[f64; 3], out: &mut [f64; 3])
+    ensures { λ _. ⌜ left out ≡ Math.sub3 (vector a) (vector b) ⌝ }
 {
-    lent_numbers::write3(math::sub3([a0, a1, a2], [b0, b1, b2]), out)
+    *out = math::sub3(*a, *b);
 }
 
 #[no_mangle]
-pub extern "C" fn screens_add3(
-    a0: f64,
-    a1: f64,
-    a2: f64,
-    b0: f64,
-    b1: f64,
-    b2: f64,
-    out: &mut [f64],
-) -> u32
-    ensures { λ r. ⌜ Wrote 3 (Math.add3 (vector a0 a1 a2) (vector b0 b1 b2)) (now (out .entry)) r (now (out .exit)) ⌝ }
+pub extern "C" fn screens_add3(a: &[f64; 3], b: &[f64; 3], out: &mut [f64; 3])
+    ensures { λ _. ⌜ left out ≡ Math.add3 (vector a) (vector b) ⌝ }
 {
-    lent_numbers::write3(math::add3([a0, a1, a2], [b0, b1, b2]), out)
+    *out = math::add3(*a, *b);
 }
 
 #[no_mangle]
-pub extern "C" fn screens_scale3(a0: f64, a1: f64, a2: f64, scale: f64, out: &mut [f64]) -> u32
-    ensures { λ r. ⌜ Wrote 3 (Math.scale3 (vector a0 a1 a2) scale) (now (out .entry)) r (now (out .exit)) ⌝ }
+pub extern "C" fn screens_scale3(a: &[f64; 3], scale: f64, out: &mut [f64; 3])
+    ensures { λ _. ⌜ left out ≡ Math.scale3 (vector a) scale ⌝ }
 {
-    lent_numbers::write3(math::scale3([a0, a1, a2], scale), out)
+    *out = math::scale3(*a, scale);
 }
 
 #[no_mangle]
-pub extern "C" fn screens_add_scaled3(
-    a0: f64,
-    a1: f64,
-    a2: f64,
-    b0: f64,
-    b1: f64,
-    b2: f64,
-    scale: f64,
-    out: &mut [f64],
-) -> u32
-    ensures { λ r. ⌜ Wrote 3 (Math.addScaled3 (vector a0 a1 a2) (vector b0 b1 b2) scale) (now (out .entry)) r (now (out .exit)) ⌝ }
+pub extern "C" fn screens_add_scaled3(a: &[f64; 3], b: &[f64; 3], scale: f64, out: &mut [f64; 3])
+    ensures { λ _. ⌜ left out ≡ Math.addScaled3 (vector a) (vector b) scale ⌝ }
 {
-    lent_numbers::write3(math::add_scaled3([a0, a1, a2], [b0, b1, b2], scale), out)
+    *out = math::add_scaled3(*a, *b, scale);
 }
 
 #[no_mangle]
-pub extern "C" fn screens_normalize3(a0: f64, a1: f64, a2: f64, out: &mut [f64]) -> u32
-    ensures { λ r. ⌜ Wrote 3 (Math.normalize3 (vector a0 a1 a2)) (now (out .entry)) r (now (out .exit)) ⌝ }
+pub extern "C" fn screens_normalize3(a: &[f64; 3], out: &mut [f64; 3])
+    ensures { λ _. ⌜ left out ≡ Math.normalize3 (vector a) ⌝ }
 {
-    lent_numbers::write3(math::normalize3([a0, a1, a2]), out)
+    *out = math::normalize3(*a);
 }

@@ -8,7 +8,7 @@ use lib.Dec.{T, leb, leb→le, nleb→lt}
 use lib.Pow.{pow-pos}
 use lib.Ieee.{size}
 use lib.Ieee.Digits.{size-lt}
-use Rattle.square_root.specs.SquareRoot.{rootIn, root}
+use Rattle.binary64.specs.Operations.{rootIn, root}
 use Rattle.square_root.proofs.Square.{even-square}
 
 -- q is the whole part of the root of n

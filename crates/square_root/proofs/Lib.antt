@@ -11,3 +11,4 @@ pub mod Test
 pub mod Between
 pub mod RoundingLaw
 pub mod NearestLaw
+pub mod Examples

@@ -14,7 +14,7 @@ use lib.Ieee.Exact.{HasValue, units-val}
 use lib.Ieee.Bits.{ofBits-toBits, toBits-lt}
 use lib.Ieee.Positive.{positive}
 use Rattle.binary64.specs.Pattern.{digitsOf, placeOf}
-use Rattle.square_root.specs.SquareRoot.{squareRoot, sqrt, root}
+use Rattle.binary64.specs.Operations.{squareRoot, sqrt, root}
 use Rattle.square_root.specs.Nearest.{NearRoot, Scaled, Digits, NearestRoot}
 use Rattle.square_root.proofs.Square.{next-times, near-between}
 use Rattle.square_root.proofs.Floor.{Floor, root-floor}

@@ -11,7 +11,7 @@ use lib.Ieee.{Float, binary64, low, units, ofBits, toBits}
 use lib.Ieee.Exact.{HasValue, units-val}
 use Rattle.binary64.specs.Pattern.{digitsOf, placeOf}
 use Rattle.binary64.proofs.Pattern.{pack, bits-value}
-use Rattle.square_root.specs.SquareRoot.{squareRoot}
+use Rattle.binary64.specs.Operations.{squareRoot}
 use Rattle.square_root.specs.Nearest.{NearRoot, Scaled, Digits, NearestRoot}
 use Rattle.square_root.proofs.RootValue.{sqrt-value, value-is}
 

@@ -10,7 +10,7 @@ use lib.Ieee.{Float, nan, inf, fin, Format, prec, low, up, down, units}
 use lib.Ieee.Fits.{down-pos}
 use lib.Ieee.Exact.{HasValue}
 use Rattle.binary64.proofs.Pattern.{above-zero}
-use Rattle.square_root.specs.SquareRoot.{squareRoot, rootOf}
+use Rattle.binary64.specs.Operations.{squareRoot, rootOf}
 use Rattle.square_root.proofs.Rounded.{rootOf-is}
 
 -- ---- the root of a value

@@ -12,7 +12,7 @@ use lib.Ieee.Fits.{round-is, two, two-le-pos}
 use lib.Ieee.Nearest.{closest}
 use Rattle.binary64.proofs.Pattern.{less-one}
 use Rattle.binary64.proofs.Size.{size-is}
-use Rattle.square_root.specs.SquareRoot.{root, rootOf}
+use Rattle.binary64.specs.Operations.{root, rootOf}
 use Rattle.square_root.proofs.Floor.{Floor, root-floor, four-pow}
 use Rattle.square_root.proofs.Closest.{closest-is}
 

@@ -13,7 +13,7 @@ use lib.Ieee.{Float, nan, inf, fin, Format, low, up, down, round, le}
 use lib.Ieee.Fits.{down-pos}
 use lib.Ieee.Order.{round-mono}
 use lib.Ieee.Positive.{num, den, positive}
-use Rattle.square_root.specs.SquareRoot.{squareRoot, root, rootOf}
+use Rattle.binary64.specs.Operations.{squareRoot, root, rootOf}
 use Rattle.square_root.proofs.Square.{even-square}
 use Rattle.square_root.proofs.Floor.{Floor, root-floor, four-pow}
 use Rattle.square_root.proofs.Rounded.{square-lt}

@@ -12,7 +12,7 @@ use lib.Ieee.Fits.{down-pos, round-fits, nan-fits, inf-fits}
 use lib.Ieee.Exact.{HasValue, odd-sign}
 use lib.Ieee.Bits.{ofBits-toBits}
 use Rattle.binary64.proofs.Pattern.{above-zero, opened}
-use Rattle.square_root.specs.SquareRoot.{squareRoot, rootOf}
+use Rattle.binary64.specs.Operations.{squareRoot, rootOf}
 
 pub sqrt-fits : (f : Format) (x : Float) → T (fits f x) → T (fits f (squareRoot f x))
 unfolding squareRoot rootOf

@@ -6,14 +6,13 @@ use Prim.Native.Nat.{ℕ, _+_, _-_, _*_, _/_, _%_, _^_, _≤_, _<_}
 use native.Mathlib.Nat.{mul-one, mul-le-mul, le-refl}
 use native.Mathlib.Omega.{arith}
 use lib.Dec.{T, leb, ltb, leb→le, ltb→lt}
-use lib.Arith.{le→nltb}
 use lib.Ieee.{Float, binary64, fits, isNan, nanBits, ofBits, toBits}
 use lib.Ieee.Bits.{ofBits-toBits, nanBits-is, nanBits-above, is-false}
 use lib.Ieee.Fits.{and-l, and-r}
 use borrow.Author.Tests.{lt-ltb, le-ltb, le-leb, lt-leb, ltb-true, ltb-false}
 use Rattle.binary64.specs.Pattern.{digitsOf}
 use Rattle.binary64.proofs.Pattern.{digits-high}
-use Rattle.square_root.specs.SquareRoot.{squareRoot}
+use Rattle.binary64.specs.Operations.{squareRoot}
 use Rattle.square_root.specs.Nearest.{NearRoot, Scaled, Digits}
 use Rattle.square_root.specs.Estimate.{isNearRoot, isRoot}
 use Rattle.square_root.proofs.Square.{near-between}

@@ -5,7 +5,7 @@ ghost use mathlib.Core.Path.{_≡_};
 ghost use Prim.Native.Nat.{_+_, _-_, _*_, _/_, _%_, _^_, _≤_, _<_};
 ghost use lib.Dec.{T};
 ghost use lib.Ieee.{binary64, ofBits, toBits};
-ghost use Rattle.square_root.specs.SquareRoot as Spec;
+ghost use Rattle.binary64.specs.Operations as Spec;
 ghost use Rattle.square_root.specs.Estimate as Estimate;
 ghost use Rattle.square_root.specs.Nearest.{NearRoot, Scaled, Digits};
 

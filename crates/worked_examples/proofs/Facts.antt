@@ -2,26 +2,27 @@
 use mathlib.Core.Path.{refl}
 use lib.Ieee.{neg, ofBits, toBits, add, sub, mul, div, lt, le, isNan}
 use Rattle.ieee754.specs.Ieee754.{fma, sqrt, min, max, clamp}
-use Rattle.square_root.specs.SquareRoot.{squareRoot}
+use Rattle.binary64.specs.Operations.{squareRoot}
 use Rattle.math.specs.Math.{norm3, dot3, cross3, sub3, addScaled3}
 use Rattle.tri.specs.Mapping.{area, rawNormal}
 use Rattle.tri.specs.Tri3.{closestPoint, exitsFromSecond, exitsFromFourth, exitsFromSixth}
-use Rattle.mesh.specs.Refusal.{first, after}
-use Rattle.mesh.specs.Counting.{someBelow, anyOf, countBelow}
-use Rattle.mesh.specs.Filling.{tabulateFrom}
+use Rattle.refusal.specs.Checks.{first, after}
+use Rattle.lists.specs.Counting.{someBelow, anyOf, countBelow}
+use Rattle.lists.specs.Filling.{tabulateFrom}
 use Rattle.mesh.specs.Mesh.{meshRefusal, meshChecks, lengthsDiffer, passesLimits, missesNode, isZeroArea, edgeSq, quality, isPoor, poorPanels, testedCount}
 use Rattle.boundary_element.specs.Identity.{pointsMatch, matchesCorner, trianglesIdentical}
 use Rattle.panel_distance.specs.Distance.{distanceSquared, pointTriangleDistanceSquared, lineParameter, offsetSquared, keptOffsetSquared, segmentDistanceSquared, leastOfCorners, leastOfEdges, triangleDistanceSquared, lowest, highest, gap, triangleAabbDistanceSquared, triangleMaxEdgeSquared}
 use Rattle.panel_distance.specs.Bisection.{firstLongest, longestEdge, midpoint, halves, longestEdgeBisection}
 use Rattle.coupling.specs.Coupling.{isFar, geometricCoupling}
-use Rattle.linkage.specs.Energy.{rowAdded, rowsAdded, energyRefusal}
-use Rattle.linkage.specs.Flux.{fluxTo, interactionTo, lacksSources, brokenRows, rowsDiffer, mapRefusal}
+use Rattle.lists.specs.Sums.{runningSum}
+use Rattle.linkage.specs.Energy.{rowsAdded, energyRefusal}
+use Rattle.linkage.specs.Flux.{lacksSources, brokenRows, rowsDiffer, mapRefusal}
 use Rattle.display.specs.Display.{roundHalfAway, nanohenries, outOfRange, displayRefusal, withSign, shown}
 use Rattle.worked_examples.specs.BenchSheet.{BenchSheet}
 
 -- the starred facts, together
 pub bench-sheet : BenchSheet
-unfolding fma sqrt squareRoot min max clamp norm3 dot3 cross3 sub3 addScaled3 area rawNormal closestPoint exitsFromSecond exitsFromFourth exitsFromSixth first after someBelow anyOf countBelow tabulateFrom meshRefusal meshChecks lengthsDiffer passesLimits missesNode isZeroArea edgeSq quality isPoor poorPanels testedCount pointsMatch matchesCorner trianglesIdentical distanceSquared pointTriangleDistanceSquared lineParameter offsetSquared keptOffsetSquared segmentDistanceSquared leastOfCorners leastOfEdges triangleDistanceSquared lowest highest gap triangleAabbDistanceSquared triangleMaxEdgeSquared firstLongest longestEdge midpoint halves longestEdgeBisection isFar geometricCoupling rowAdded rowsAdded energyRefusal fluxTo interactionTo lacksSources brokenRows rowsDiffer mapRefusal roundHalfAway nanohenries outOfRange displayRefusal withSign shown neg ofBits toBits add sub mul div lt le isNan
+unfolding fma sqrt squareRoot min max clamp norm3 dot3 cross3 sub3 addScaled3 area rawNormal closestPoint exitsFromSecond exitsFromFourth exitsFromSixth first after someBelow anyOf countBelow tabulateFrom meshRefusal meshChecks lengthsDiffer passesLimits missesNode isZeroArea edgeSq quality isPoor poorPanels testedCount pointsMatch matchesCorner trianglesIdentical distanceSquared pointTriangleDistanceSquared lineParameter offsetSquared keptOffsetSquared segmentDistanceSquared leastOfCorners leastOfEdges triangleDistanceSquared lowest highest gap triangleAabbDistanceSquared triangleMaxEdgeSquared firstLongest longestEdge midpoint halves longestEdgeBisection isFar geometricCoupling rowsAdded energyRefusal runningSum lacksSources brokenRows rowsDiffer mapRefusal roundHalfAway nanohenries outOfRange displayRefusal withSign shown neg ofBits toBits add sub mul div lt le isNan
 bench-sheet =
     record {
       fused = refl;

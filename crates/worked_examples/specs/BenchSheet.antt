@@ -10,7 +10,7 @@ use Rattle.ieee754.specs.Ieee754.{fma, sqrt}
 use Rattle.math.specs.Math.{Vec}
 use Rattle.tri.specs.Mapping.{Tri}
 use Rattle.tri.specs.declared.quadrature.QuadratureKind.{QuadratureKind}
-use Rattle.mesh.specs.Refusal.{after}
+use Rattle.refusal.specs.Checks.{after}
 use Rattle.mesh.specs.Mesh.{Mesh, meshOf, meshRefusal, testedCount, maxNodes, maxPanels}
 use Rattle.potential.specs.Potential.{uniformTriangle}
 use Rattle.panel_distance.specs.Bisection.{longestEdge, longestEdgeBisection}

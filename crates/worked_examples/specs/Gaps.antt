@@ -1,9 +1,7 @@
 -- The program `worked_examples`: how far two numbers are apart in units in the last place, and the most over a table. Definitions only.
-use mathlib.Core.Path.{_≡_}
 use mathlib.Core.Bool.{cond}
 use mathlib.Core.List.{List, []}
-use Prim.Native.Nat.{ℕ, zero, suc, _+_, _-_, _^_}
-use native.Mathlib.Numerals.{add-one}
+use Prim.Native.Nat.{ℕ, zero, suc, _+_, _^_, _-_}
 use lib.Dec.{ltb, eqb}
 use lib.ListN.{getD}
 use lib.Ieee.{Float}
@@ -36,7 +34,3 @@ rowGap which row = gap (elementaryOf which (at row 0) (at row 1)) (at row 2)
 unfoldable pub worst : ℕ → List (List Float) → ℕ → ℕ
 worst which table zero = 0
 worst which table (suc k) = worse (worst which table k) (rowGap which (getD table k []))
-
-pub worst-more : (which : ℕ) (table : List (List Float)) (k : ℕ) → worst which table (k + 1) ≡ worse (worst which table k) (rowGap which (getD table k []))
-unfolding worst
-worst-more which table k = rw add-one

@@ -6,10 +6,10 @@
 //! | here | in C |
 //! |---|---|
 //! | `number` | a `double` |
-//! | `vector`, `triangle` | three or nine `double` in order |
+//! | `vector`, `triangle` | a pointer to three or nine `double` |
 //! | `choice`, `size` | a `uint32_t`, a `size_t` |
 //! | `&[T]`, `&mut [T]` | a pointer and a length |
-//! | `&mut T` | a pointer to one number |
+//! | `&mut [T; N]`, `&mut T` | a pointer to N numbers, to one |
 
 // The library's `usize` has 64 bits.
 const _: () = assert!(size_of::<usize>() == 8);
@@ -25,7 +25,8 @@ macro_rules! bind {
             }
             // SAFETY: the library's functions are proved to end, and to read and write only what they are lent, on every
             // input. What they ask of the caller holds for references: pointers are aligned and not null, also those of
-            // empty slices; each is good for its length; and what is written is lent to nobody else.
+            // empty slices; each is good for its length; and what is written is lent to nobody else. Three rows of three
+            // numbers lie in memory as nine.
             unsafe { $symbol($($arg)*) }
         }
     };
@@ -39,14 +40,13 @@ macro_rules! bind {
         bind!(@ $n $s $r; [$($safe)* $p: usize,] [$($raw)* $p: usize,] [$($arg)* $p,] $($($rest)*)?);
     };
     (@ $n:ident $s:ident $r:ty; [$($safe:tt)*] [$($raw:tt)*] [$($arg:tt)*] $p:ident: vector $(, $($rest:tt)*)?) => {
-        bind!(@ $n $s $r; [$($safe)* $p: [f64; 3],] [$($raw)* _: f64, _: f64, _: f64,]
-            [$($arg)* $p[0], $p[1], $p[2],] $($($rest)*)?);
+        bind!(@ $n $s $r; [$($safe)* $p: [f64; 3],] [$($raw)* _: &[f64; 3],] [$($arg)* &$p,] $($($rest)*)?);
     };
     (@ $n:ident $s:ident $r:ty; [$($safe:tt)*] [$($raw:tt)*] [$($arg:tt)*] $p:ident: triangle $(, $($rest:tt)*)?) => {
-        bind!(@ $n $s $r; [$($safe)* $p: [[f64; 3]; 3],]
-            [$($raw)* _: f64, _: f64, _: f64, _: f64, _: f64, _: f64, _: f64, _: f64, _: f64,]
-            [$($arg)* $p[0][0], $p[0][1], $p[0][2], $p[1][0], $p[1][1], $p[1][2], $p[2][0], $p[2][1], $p[2][2],]
-            $($($rest)*)?);
+        bind!(@ $n $s $r; [$($safe)* $p: [[f64; 3]; 3],] [$($raw)* _: &[[f64; 3]; 3],] [$($arg)* &$p,] $($($rest)*)?);
+    };
+    (@ $n:ident $s:ident $r:ty; [$($safe:tt)*] [$($raw:tt)*] [$($arg:tt)*] $p:ident: &mut [$t:ty; $k:literal] $(, $($rest:tt)*)?) => {
+        bind!(@ $n $s $r; [$($safe)* $p: &mut [$t; $k],] [$($raw)* _: &mut [$t; $k],] [$($arg)* $p,] $($($rest)*)?);
     };
     (@ $n:ident $s:ident $r:ty; [$($safe:tt)*] [$($raw:tt)*] [$($arg:tt)*] $p:ident: &[$t:ty] $(, $($rest:tt)*)?) => {
         bind!(@ $n $s $r; [$($safe)* $p: &[$t],] [$($raw)* _: *const $t, _: usize,]
@@ -78,28 +78,28 @@ bind! {
     atan2 = screens_atan2(y: number, x: number) -> f64;
     dot3 = screens_dot3(a: vector, b: vector) -> f64;
     norm3 = screens_norm3(a: vector) -> f64;
-    cross3 = screens_cross3(a: vector, b: vector, out: &mut [f64]) -> u32;
-    sub3 = screens_sub3(a: vector, b: vector, out: &mut [f64]) -> u32;
-    add3 = screens_add3(a: vector, b: vector, out: &mut [f64]) -> u32;
-    scale3 = screens_scale3(a: vector, scale: number, out: &mut [f64]) -> u32;
-    add_scaled3 = screens_add_scaled3(a: vector, b: vector, scale: number, out: &mut [f64]) -> u32;
-    normalize3 = screens_normalize3(a: vector, out: &mut [f64]) -> u32;
+    cross3 = screens_cross3(a: vector, b: vector, out: &mut [f64; 3]) -> ();
+    sub3 = screens_sub3(a: vector, b: vector, out: &mut [f64; 3]) -> ();
+    add3 = screens_add3(a: vector, b: vector, out: &mut [f64; 3]) -> ();
+    scale3 = screens_scale3(a: vector, scale: number, out: &mut [f64; 3]) -> ();
+    add_scaled3 = screens_add_scaled3(a: vector, b: vector, scale: number, out: &mut [f64; 3]) -> ();
+    normalize3 = screens_normalize3(a: vector, out: &mut [f64; 3]) -> ();
 }
 
 // One panel.
 bind! {
     area = screens_area(t: triangle) -> f64;
     quality = screens_quality(t: triangle) -> f64;
-    normal = screens_normal(t: triangle, out: &mut [f64]) -> u32;
-    map_point = screens_map_point(t: triangle, u: number, v: number, out: &mut [f64]) -> u32;
-    closest_point = screens_closest_point(point: vector, t: triangle, out: &mut [f64]) -> u32;
-    record = screens_record(t: triangle, out: &mut [f64]) -> u32;
+    normal = screens_normal(t: triangle, out: &mut [f64; 3]) -> ();
+    map_point = screens_map_point(t: triangle, u: number, v: number, out: &mut [f64; 3]) -> ();
+    closest_point = screens_closest_point(point: vector, t: triangle, out: &mut [f64; 3]) -> ();
+    record = screens_record(t: triangle, out: &mut [f64; 34]) -> ();
     potential = screens_potential(t: triangle, point: vector) -> f64;
-    gradient = screens_gradient(t: triangle, point: vector, out: &mut [f64]) -> u32;
+    gradient = screens_gradient(t: triangle, point: vector, out: &mut [f64; 3]) -> ();
     contact = screens_contact(t: triangle, point: vector) -> bool;
-    basis_current_densities = screens_basis_current_densities(t: triangle, out: &mut [f64]) -> u32;
-    current_density = screens_current_density(t: triangle, s: vector, out: &mut [f64]) -> u32;
-    longest_edge_bisection = screens_longest_edge_bisection(t: triangle, out: &mut [f64]) -> u32;
+    basis_current_densities = screens_basis_current_densities(t: triangle, out: &mut [f64; 9]) -> ();
+    current_density = screens_current_density(t: triangle, s: vector, out: &mut [f64; 3]) -> ();
+    longest_edge_bisection = screens_longest_edge_bisection(t: triangle, out: &mut [f64; 18]) -> ();
     max_edge_squared = screens_triangle_max_edge_squared(t: triangle) -> f64;
 }
 
@@ -112,7 +112,7 @@ bind! {
     coupling = screens_coupling(rule: choice, s: triangle, t: triangle, value: &mut f64) -> u32;
     coupling_regular = screens_coupling_regular(rule: choice, s: triangle, t: triangle, value: &mut f64) -> u32;
     mutual_inductance_block =
-        screens_mutual_inductance_block(rule: choice, s: triangle, t: triangle, out: &mut [f64]) -> u32;
+        screens_mutual_inductance_block(rule: choice, s: triangle, t: triangle, out: &mut [f64; 9]) -> u32;
     mutual_inductance = screens_mutual_inductance(
         rule: choice, s: triangle, i: size, t: triangle, j: size, value: &mut f64) -> u32;
     inductance_from_potentials = screens_inductance_from_potentials(block: triangle, s: vector, t: vector) -> f64;
@@ -133,7 +133,7 @@ bind! {
         out: &mut [f64]) -> u32;
     move_node = screens_move_node(
         rule: choice, x: &mut [f64], y: &mut [f64], z: &mut [f64], t0: &[usize], t1: &[usize], t2: &[usize],
-        matrix: &mut [f64], node: size, place: vector, count: &mut usize) -> u32;
+        matrix: &mut [f64], node: size, px: number, py: number, pz: number, count: &mut usize) -> u32;
     mesh_inductance_from_potentials = screens_mesh_inductance_from_potentials(
         matrix: &[f64], s: &[f64], t: &[f64], value: &mut f64) -> u32;
     mesh_inductive_energy = screens_mesh_inductive_energy(matrix: &[f64], s: &[f64], value: &mut f64) -> u32;

@@ -185,10 +185,10 @@ pub(crate) fn valued<T: Default>(call: impl FnOnce(&mut T) -> u32) -> Result<T, 
     Ok(value)
 }
 
-/// The N numbers of a call whose only refusal is 6, for a buffer of another length.
-pub(crate) fn filled<const N: usize>(call: impl FnOnce(&mut [f64]) -> u32) -> [f64; N] {
+/// The N numbers of a call that refuses nothing.
+pub(crate) fn filled<const N: usize>(call: impl FnOnce(&mut [f64; N])) -> [f64; N] {
     let mut out = [0.0; N];
-    done(call(&mut out)).expect("the length due");
+    call(&mut out);
     out
 }
 

@@ -12,7 +12,7 @@ use lib.Ieee.{Float, binary64, unlike, round, sum, add, fits, toBits}
 use lib.Ieee.Exact.{HasValue}
 use Rattle.fused_integer.specs.Jam.{Jam}
 use Rattle.fused_guided.specs.Guided.{Rest}
-use Rattle.fused_integer.specs.Fma.{fma}
+use Rattle.binary64.specs.Operations.{fma}
 use Rattle.fused_integer.proofs.Laws.Jam.{jam-add, jam-sub, sub-mul}
 use Rattle.fused_integer.proofs.Laws.Meaning.{sum-alike, sum-less, sum-more}
 use Rattle.fused_integer.proofs.Laws.Value.{signOf, fma-values, add-units}

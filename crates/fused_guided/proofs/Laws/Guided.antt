@@ -15,7 +15,7 @@ use Rattle.fused_integer.specs.Jam.{Jam}
 use Rattle.binary64.proofs.Pattern.{digits-high}
 use Rattle.fused_integer.specs.Parts.{mag}
 use Rattle.fused_guided.specs.Guided.{field, digits, wrapped, signedSum, SignedWords, leads, significand, usable, guided, Found}
-use Rattle.fused_integer.specs.Fma.{fma}
+use Rattle.binary64.specs.Operations.{fma}
 use Rattle.fused_integer.proofs.Laws.Value.{signOf, absOf, read-plain, fma-values}
 use Rattle.fused_integer.proofs.Laws.Cases.{sum-no-nan, sum-read}
 use Rattle.fused_integer.proofs.Laws.Jam.{jam-exact}

@@ -17,7 +17,7 @@ use Rattle.binary64.specs.Binary64.{_⊕_, _⊖_, _⊗_, bits, plusZero}
 use Rattle.binary64.proofs.Bounded.{alike}
 use Rattle.binary64.proofs.Size.{size-over}
 use Rattle.binary64.proofs.Zeros.{sum-nought}
-use Rattle.fused_integer.specs.Fma.{fma}
+use Rattle.binary64.specs.Operations.{fma}
 use Rattle.fused_integer.specs.Parts.{mag}
 use Rattle.fused_integer.proofs.Laws.Once.{den}
 use Rattle.fused_integer.proofs.Laws.Value.{absOf, fma-values}

@@ -14,7 +14,7 @@ use Rattle.binary64.proofs.Nearest.{Near}
 use Rattle.fused_integer.specs.Jam.{Jam}
 use Rattle.fused_guided.specs.Guided.{Rest}
 use Rattle.fused_multiply_add.specs.Residual.{Fits, added, taken}
-use Rattle.fused_integer.specs.Fma.{fma}
+use Rattle.binary64.specs.Operations.{fma}
 use Rattle.fused_integer.proofs.Laws.Jam.{jam-add}
 use Rattle.fused_integer.proofs.Laws.Value.{signOf, fma-values}
 use Rattle.fused_multiply_add.proofs.Laws.Tests.{Reach}

@@ -1,7 +1,7 @@
 -- A refusal leaves the output as it was; a call that is done is ready, and with every node marked the renewed matrix is the fresh one.
 use mathlib.Core.Path.{sym}
 use denote.Ref.{now}
-use Rattle.mesh.specs.Refusal.{after-refused}
+use Rattle.refusal.proofs.Checks.{after-refused}
 use Rattle.mesh.specs.Mesh.{meshOf}
 use Rattle.inductance.proofs.Ready.{ready, assembled}
 use borrow.Author.Needs.{needs}

@@ -6,7 +6,7 @@ use Rattle.mesh.specs.Mesh.{Mesh, meshOf, nnode}
 use Rattle.coupling.specs.Block.{mutualInductanceBlock}
 use Rattle.scatter.specs.Renewal.{marked}
 use Rattle.inductance.proofs.Within.{entries-within}
-use Rattle.pair_nest.proofs.Ready.{ready-now, indices-marked}
+use Rattle.pair_loops.proofs.Ready.{ready-now, indices-marked}
 use Rattle.inductance.proofs.Renewing.{nest-done, cleared-length}
 use Rattle.inductance.proofs.renew.Statement.{statement}
 use Rattle.inductance.proofs.renew.Tie as tie

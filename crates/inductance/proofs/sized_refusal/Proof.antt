@@ -2,7 +2,7 @@
 use native.Mathlib.Omega.{arith}
 use borrow.Author.Tests.{ne-eqb, eq-eqb}
 use denote.Ref.{now}
-use Rattle.mesh.specs.Refusal.{first}
+use Rattle.refusal.specs.Checks.{first}
 use Rattle.mesh.specs.Mesh.{Mesh, meshOf, nnode, maxNodes, maxPanels}
 use Rattle.mesh.proofs.Refusals.{mesh-stopped, mesh-passed}
 use Rattle.scatter.proofs.Few.{few-cells}

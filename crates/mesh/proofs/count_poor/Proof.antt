@@ -7,7 +7,8 @@ use native.Mathlib.Omega.{arith}
 use borrow.Author.Needs.{needs}
 use denote.Ref.{now}
 use lib.ListN.{length}
-use Rattle.mesh.specs.Counting.{countBelow, count-on, count-off, count-bound}
+use Rattle.lists.specs.Counting.{countBelow}
+use Rattle.lists.proofs.Counting.{count-on, count-off, count-bound}
 use Rattle.mesh.specs.Mesh.{meshOf, triangleNodes, isPoor, poorPanels}
 use Rattle.mesh.proofs.count_poor.Statement.{statement}
 use Rattle.mesh.proofs.count_poor.Tie as tie

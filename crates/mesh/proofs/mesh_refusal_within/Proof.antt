@@ -1,8 +1,8 @@
 -- Each exit follows the list of checks: the tests before it are off and its own is on. What the next test requires is what the tests before it have shown.
-use mathlib.Core.Path.{_≡_, sym, _∙_}
+use mathlib.Core.Path.{sym, _∙_}
 use borrow.Author.Needs.{needs}
 use denote.Ref.{now}
-use Rattle.mesh.specs.Refusal.{first}
+use Rattle.refusal.specs.Checks.{first}
 use Rattle.mesh.specs.Mesh.{Mesh, meshOf, meshRefusal, meshChecks}
 use Rattle.mesh.proofs.Refusals.{nodes-off, panels-off, missing-off}
 use Rattle.mesh.proofs.mesh_refusal_within.Statement.{statement}

@@ -1,7 +1,7 @@
 -- `anyOf` over the three indices ends in `false`, which `or-false` drops.
 use borrow.Author.Needs.{needs}
 use mathlib.Core.Bool.{or-false}
-use Rattle.mesh.specs.Counting.{anyOf}
+use Rattle.lists.specs.Counting.{anyOf}
 use Rattle.mesh.specs.Mesh.{missesNode}
 use Rattle.mesh.proofs.misses_node.Statement.{statement}
 use Rattle.mesh.proofs.misses_node.Tie as tie

@@ -8,7 +8,8 @@ use borrow.Author.Count.{below-none, below-more}
 use borrow.Author.Needs.{needs}
 use denote.Ref.{now}
 use lib.ListN.{length}
-use Rattle.mesh.specs.Counting.{three, some-at, none-below}
+use Rattle.lists.specs.Counting.{three}
+use Rattle.lists.proofs.Counting.{some-at, none-below}
 use Rattle.mesh.specs.Mesh.{meshOf, triangleIndices, missesNode}
 use Rattle.mesh.proofs.some_misses_node.Statement.{statement}
 use Rattle.mesh.proofs.some_misses_node.Tie as tie

@@ -1,14 +1,13 @@
 -- No panel below `i` has passed the test; the first that does decides, and none does at the end.
 use mathlib.Core.Path.{_≡_, sym, ap, _∙_}
 use mathlib.Core.Bool.{false}
-use mathlib.Core.List.{List, []}
 use Prim.Native.Nat.{ℕ, _≤_, _<_, _-_}
 use native.Mathlib.Omega.{arith}
 use borrow.Author.Count.{below-none, below-more}
 use borrow.Author.Needs.{needs}
 use denote.Ref.{now}
 use lib.ListN.{length}
-use Rattle.mesh.specs.Counting.{some-at, none-below}
+use Rattle.lists.proofs.Counting.{some-at, none-below}
 use Rattle.mesh.specs.Mesh.{meshOf, triangleNodes, isZeroArea}
 use Rattle.mesh.proofs.some_zero_area.Statement.{statement}
 use Rattle.mesh.proofs.some_zero_area.Tie as tie

@@ -5,7 +5,7 @@ use native.Mathlib.Nat.{lt-of-lt-of-le}
 use native.Mathlib.Omega.{arith}
 use denote.Ref.{now}
 use lib.ListN.{length, length-set}
-use Rattle.mesh.specs.Counting.{count-bound}
+use Rattle.lists.proofs.Counting.{count-bound}
 use Rattle.mesh.specs.Mesh.{Mesh, meshOf}
 use Rattle.coupling.specs.Block.{mutualInductanceBlock}
 use Rattle.scatter.specs.Renewal.{marked}

@@ -4,7 +4,8 @@ use mathlib.Core.Logic.{⊎-elim}
 use Prim.Native.Nat.{ℕ, _≤_, _-_, _+_}
 use native.Mathlib.Omega.{arith}
 use denote.Ref.{now}
-use Rattle.mesh.specs.Counting.{countBelow, count-on, count-off, count-bound}
+use Rattle.lists.specs.Counting.{countBelow}
+use Rattle.lists.proofs.Counting.{count-on, count-off, count-bound}
 use Rattle.scatter.specs.Renewal.{marked}
 use Rattle.node_ring.proofs.count_marks.Statement.{statement}
 use Rattle.node_ring.proofs.count_marks.Tie as tie

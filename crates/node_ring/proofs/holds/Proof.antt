@@ -1,7 +1,7 @@
 -- `anyOf` over the three nodes ends in `false`, which `or-false` drops.
 use native.Mathlib.Omega.{arith}
 use mathlib.Core.Bool.{or-false}
-use Rattle.mesh.specs.Counting.{anyOf}
+use Rattle.lists.specs.Counting.{anyOf}
 use Rattle.node_ring.proofs.holds.Statement.{statement}
 use Rattle.node_ring.proofs.holds.Tie as tie
 

@@ -6,7 +6,7 @@ use Prim.Native.Nat.{ℕ, _≤_, _-_}
 use native.Mathlib.Omega.{arith}
 use denote.Ref.{now}
 use lib.ListN.{length}
-use Rattle.mesh.specs.Counting.{someBelow}
+use Rattle.lists.specs.Counting.{someBelow}
 use Rattle.mesh.specs.Mesh.{Mesh, meshOf}
 use Rattle.scatter.specs.Renewal.{marked}
 use Rattle.scatter.specs.Entries.{same}

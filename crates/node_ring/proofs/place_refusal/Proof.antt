@@ -3,7 +3,7 @@ use mathlib.Core.Path.{sym, _∙_}
 use native.Mathlib.Omega.{arith}
 use borrow.Author.Tests.{ne-eqb, eq-eqb, le-leb, lt-leb}
 use denote.Ref.{now}
-use Rattle.mesh.specs.Refusal.{first}
+use Rattle.refusal.specs.Checks.{first}
 use Rattle.mesh.specs.Mesh.{Mesh, meshOf, maxNodes, maxPanels}
 use Rattle.mesh.proofs.Refusals.{numbered, mesh-stopped, mesh-passed}
 use Rattle.scatter.proofs.Few.{few-cells}

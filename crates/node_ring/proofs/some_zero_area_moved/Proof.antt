@@ -6,7 +6,7 @@ use native.Mathlib.Omega.{arith}
 use borrow.Author.Count.{below-none, below-more}
 use denote.Ref.{now}
 use lib.ListN.{length}
-use Rattle.mesh.specs.Counting.{some-at, none-below}
+use Rattle.lists.proofs.Counting.{some-at, none-below}
 use Rattle.mesh.specs.Mesh.{meshOf, triangleNodes, isZeroArea}
 use Rattle.node_ring.specs.Place.{moved}
 use borrow.Author.Needs.{needs}

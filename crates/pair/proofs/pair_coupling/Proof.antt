@@ -5,7 +5,7 @@ use Rattle.panel_points.specs.Points.{triangle}
 use Rattle.panel_points.proofs.Places.{few}
 use Rattle.pair.specs.Pair as Spec
 use Rattle.pair.proofs.Kept.{kept-area, which-is, source-rows, source-points, source-uniform}
-use Rattle.far_rule.proofs.Symmetric.{symmetric}
+use Rattle.pair_far_rule.proofs.Symmetric.{symmetric}
 use Rattle.pair.proofs.pair_coupling.Statement.{statement}
 use Rattle.pair.proofs.pair_coupling.Tie as tie
 

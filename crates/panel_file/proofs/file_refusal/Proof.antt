@@ -2,7 +2,7 @@
 use mathlib.Core.Path.{_≡_, sym, _∙_}
 use mathlib.Core.Bool.{false}
 use denote.Ref.{now}
-use Rattle.mesh.specs.Refusal.{first}
+use Rattle.refusal.specs.Checks.{first}
 use Rattle.mesh.specs.Mesh.{passesLimits, someMissesNode}
 use Rattle.mesh.proofs.Refusals.{missing-off}
 use Rattle.panel_file.specs.PanelFile.{nodeCount, panelCount, decode, marksDiffer, lengthDiffers, fileChecks, fileRefusal, Holds}

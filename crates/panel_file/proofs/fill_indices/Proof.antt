@@ -5,7 +5,8 @@ use Prim.Native.Nat.{_≤_, _<_, _-_}
 use native.Mathlib.Omega.{arith}
 use denote.Ref.{now}
 use lib.ListN.{length}
-use Rattle.mesh.specs.Filling.{tabulate, filled, column-long, column-turn, column-end}
+use Rattle.lists.specs.Filling.{tabulate, filled}
+use Rattle.lists.proofs.Filling.{column-long, column-turn, column-end}
 use Rattle.panel_file.specs.PanelFile as Spec
 use Rattle.panel_file.proofs.fill_indices.Statement.{statement}
 use Rattle.panel_file.proofs.fill_indices.Tie as tie

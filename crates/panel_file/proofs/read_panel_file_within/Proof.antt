@@ -4,7 +4,7 @@ use Prim.Native.Nat.{ℕ}
 use native.Mathlib.Omega.{arith}
 use denote.Ref.{now}
 use Rattle.mesh.specs.Mesh.{Mesh, meshOf}
-use Rattle.mesh.specs.Refusal.{after-done, after-refused}
+use Rattle.refusal.proofs.Checks.{after-done, after-refused}
 use Rattle.panel_file.specs.PanelFile.{nodeCount, lengthDiffers, lengthsOf, Holds}
 use Rattle.panel_file.specs.Conditions.{ColumnsDue}
 use mathlib.Core.Bool.{false}

@@ -2,7 +2,7 @@
 use mathlib.Core.Path.{_≡_, sym, _∙_}
 use mathlib.Core.Bool.{_||_}
 use denote.Ref.{now}
-use Rattle.mesh.specs.Refusal.{first}
+use Rattle.refusal.specs.Checks.{first}
 use Rattle.panel_file.specs.PanelFile.{fileRefusal, columnsDiffer, Lengths, lengths, outputsDiffer}
 use Rattle.panel_file.proofs.Accepted.{marked, clean, file-stopped, file-passed}
 use borrow.Author.Needs.{needs}

@@ -7,7 +7,7 @@ use Prim.Native.Nat.{ℕ, _≤_, _<_, _-_}
 use native.Mathlib.Omega.{arith}
 use borrow.Author.Count.{below-none, below-more}
 use denote.Ref.{now}
-use Rattle.mesh.specs.Counting.{three}
+use Rattle.lists.specs.Counting.{three}
 use Rattle.mesh.specs.Mesh.{triangleIndices, missesNode, nnode}
 use Rattle.panel_file.specs.PanelFile.{decode}
 use Rattle.panel_file.proofs.Decoded.{misses-node, some-panel, no-panel}

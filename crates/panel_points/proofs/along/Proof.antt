@@ -5,6 +5,7 @@ use native.Mathlib.Omega.{arith}
 use mir.Syntax.{w64}
 use borrow.Author.Needs.{needs, fits-under}
 use Rattle.panel_points.specs.Points as Spec
+use Rattle.panel_points.proofs.Seven.{seven-more}
 use Rattle.panel_points.proofs.along.Statement.{statement}
 use Rattle.panel_points.proofs.along.Tie as tie
 
@@ -19,7 +20,7 @@ unfolding Spec.seven
 loop-holds c = (omega arith, refl)
 
 loop-again : tie.Need-loop-again Inv-loop μ-loop
-loop-again c = (search needs, rw (Spec.seven-more, ← c .before .loop .inv .1))
+loop-again c = (search needs, rw (seven-more, ← c .before .loop .inv .1))
 
 returns : tie.Need-returns Inv-loop μ-loop
 unfolding Spec.along

@@ -9,6 +9,7 @@ use lib.Ieee.{Float}
 use Rattle.binary64.specs.Binary64.{at}
 use Rattle.tri.proofs.Counts.{count-between}
 use Rattle.panel_points.specs.Points as Spec
+use Rattle.panel_points.proofs.Seven.{seven-more}
 use Rattle.panel_points.proofs.rows_of.Statement.{statement}
 use Rattle.panel_points.proofs.rows_of.Tie as tie
 
@@ -37,10 +38,10 @@ loop-again c =
     let q = c .quadrature-row .ensures in (
       search needs,
       search needs,
-      rw (Spec.seven-more, ← l .inv .2, q),
-      rw (Spec.seven-more, ← l .inv .3, q),
-      rw (Spec.seven-more, ← l .inv .4, q),
-      rw (Spec.seven-more, ← l .inv .5, q),
+      rw (seven-more, ← l .inv .2, q),
+      rw (seven-more, ← l .inv .3, q),
+      rw (seven-more, ← l .inv .4, q),
+      rw (seven-more, ← l .inv .5, q),
     )
 
 returns : tie.Need-returns Inv-loop μ-loop

@@ -4,23 +4,25 @@ use Prim.Native.Nat.{ℕ, _≤_, _-_}
 use native.Mathlib.Omega.{arith}
 use mir.Syntax.{w64}
 use borrow.Author.Needs.{needs, fits-under}
+use Rattle.lists.specs.Sums.{runningSum, sumTo}
 use Rattle.binary64.specs.Binary64.{at, _⊗_}
 use Rattle.panel_points.specs.Points as Spec
+use Rattle.lists.proofs.Sums.{sum-more}
 use Rattle.panel_points.proofs.weighted.Statement.{statement}
 use Rattle.panel_points.proofs.weighted.Tie as tie
 
 abbrev Inv-loop : tie.InvT-loop
-Inv-loop count w held out₀ j₀ out j = (j ≤ count) × (out ≡ Spec.sumTo (λ (i : ℕ). at w i ⊗ at held i) j)
+Inv-loop count w held out₀ j₀ out j = (j ≤ count) × (out ≡ sumTo (λ (i : ℕ). at w i ⊗ at held i) j)
 
 abbrev μ-loop : tie.MeasureT-loop
 μ-loop count w held out₀ j₀ out j = count - j
 
 loop-holds : tie.Need-loop-holds Inv-loop μ-loop
-unfolding Spec.sumTo
+unfolding runningSum
 loop-holds c = (omega arith, refl)
 
 loop-again : tie.Need-loop-again Inv-loop μ-loop
-loop-again c = (search needs, rw (Spec.sum-more, ← c .before .loop .inv .1))
+loop-again c = (search needs, rw (sum-more, ← c .before .loop .inv .1))
 
 returns : tie.Need-returns Inv-loop μ-loop
 returns c =

@@ -5,7 +5,8 @@ use native.Mathlib.Nat.{zero-mul}
 use native.Mathlib.Omega.{arith}
 use denote.Ref.{now}
 use lib.ListN.{length}
-use Rattle.mesh.specs.Filling.{filled, fill-start, column-long}
+use Rattle.lists.specs.Filling.{filled}
+use Rattle.lists.proofs.Filling.{fill-start, column-long}
 use Rattle.scatter.specs.Renewal.{marked}
 use Rattle.scatter.proofs.Clearing.{clearedAt, clear-turn, clear-end, rows-fit}
 use borrow.Author.Needs.{needs}

@@ -1,10 +1,10 @@
 -- `row-scan` says where the scan of the row stands after each step to the next named column.
 use mathlib.Core.Path.{_≡_, refl, ap, _∙_}
-use Prim.Native.Nat.{_≤_, _+_, _-_, _*_}
+use Prim.Native.Nat.{_+_, _-_, _*_}
 use native.Mathlib.Omega.{arith}
 use denote.Ref.{now}
-use lib.ListN.{length}
-use Rattle.mesh.specs.Filling.{run, run-start}
+use Rattle.lists.specs.Filling.{run}
+use Rattle.lists.proofs.Filling.{run-start}
 use Rattle.scatter.specs.Renewal.{named, clearedIn, marked}
 use Rattle.scatter.proofs.Links.{next-bounds}
 use Rattle.scatter.proofs.Steps.{in-square}

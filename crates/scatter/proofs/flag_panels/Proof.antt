@@ -6,7 +6,7 @@ use native.Mathlib.Nat.{not-suc-le-zero}
 use native.Mathlib.Omega.{arith}
 use denote.Ref.{now}
 use lib.ListN.{length, length-set}
-use Rattle.mesh.specs.Counting.{anyOf, three}
+use Rattle.lists.specs.Counting.{anyOf, three}
 use Rattle.mesh.specs.Mesh.{Mesh, meshOf}
 use Rattle.scatter.specs.Renewal.{marked, AllBelow}
 use Rattle.scatter.specs.Flags.{Flagged}

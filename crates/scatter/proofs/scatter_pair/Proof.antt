@@ -1,7 +1,7 @@
 -- By cases on whether the pair is one panel with itself, as the definition is.
 use borrow.Author.Tests.{not-true, not-false}
 use denote.Ref.{now}
-use Rattle.mesh.specs.Counting.{three}
+use Rattle.lists.specs.Counting.{three}
 use Rattle.scatter.specs.Entries.{blockEntries}
 use Rattle.scatter.specs.Renewal.{marked}
 use Rattle.scatter.proofs.Steps.{both-added, one-added}

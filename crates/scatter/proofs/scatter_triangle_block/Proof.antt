@@ -1,7 +1,7 @@
 -- Three rows, one after the other, in one orientation.
 use denote.Ref.{now}
 use lib.ListN.{getD}
-use Rattle.mesh.specs.Counting.{three}
+use Rattle.lists.specs.Counting.{three}
 use Rattle.scatter.specs.Entries.{rowEntries, blockEntries}
 use Rattle.scatter.specs.Renewal.{marked}
 use Rattle.scatter.proofs.Steps.{three-steps}

@@ -1,6 +1,6 @@
 -- `anyOf` over the three nodes ends in `false`, which `or-false` drops.
 use mathlib.Core.Bool.{or-false}
-use Rattle.mesh.specs.Counting.{anyOf}
+use Rattle.lists.specs.Counting.{anyOf}
 use borrow.Author.Needs.{needs}
 use Rattle.scatter.proofs.touches.Statement.{statement}
 use Rattle.scatter.proofs.touches.Tie as tie

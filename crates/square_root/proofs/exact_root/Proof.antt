@@ -7,7 +7,7 @@ use lib.Dec.{T}
 use lib.Ieee.{Float, binary64, ofBits, toBits, fits}
 use lib.Ieee.Bits.{ofBits-toBits, toBits-lt}
 use lib.Ieee.Compare.{differs-from-itself}
-use Rattle.square_root.specs.SquareRoot.{squareRoot, sqrt}
+use Rattle.binary64.specs.Operations.{squareRoot, sqrt}
 use Rattle.binary64.proofs.Pattern.{self-equal, no-nan}
 use Rattle.square_root.proofs.Special.{own-root, zero-root, minus-zero-root, infinity-root, nan-root, no-root, zero-over-zero, sqrt-fits}
 use Rattle.square_root.proofs.exact_root.Statement.{statement}

@@ -4,7 +4,7 @@ use mathlib.Core.Path.{_≡_, sym, subst}
 use Prim.Native.Nat.{ℕ, _+_, _-_, _*_, _%_, _^_, _≤_, _<_}
 use native.Mathlib.Omega.{arith}
 use Rattle.binary64.specs.Pattern.{digitsOf, placeOf}
-use Rattle.square_root.specs.SquareRoot.{sqrt}
+use Rattle.binary64.specs.Operations.{sqrt}
 use Rattle.square_root.specs.Nearest.{NearRoot, Scaled, Digits}
 use Rattle.square_root.proofs.RootPattern.{scaled, shl-twice, root-law}
 use Rattle.square_root.proofs.exact_root_bits.Statement.{statement}

@@ -1,15 +1,14 @@
 -- What passes the test has the root's pattern (`passed`), so it is the root.
 use borrow.Author.Needs.{needs}
-use mathlib.Core.Path.{_≡_, sym, ap, _∙_, subst}
+use mathlib.Core.Path.{sym, ap, _∙_, subst}
 use Prim.Native.Nat.{ℕ}
 use native.Mathlib.Omega.{arith}
 use lib.Dec.{T}
-use lib.Ieee.{Float, binary64, ofBits, toBits, fits}
+use lib.Ieee.{binary64, ofBits, toBits, fits}
 use lib.Ieee.Bits.{ofBits-toBits, ofBits-fits}
 use Rattle.binary64.proofs.Pattern.{self-equal}
-use Rattle.square_root.specs.SquareRoot.{squareRoot, sqrt}
+use Rattle.binary64.specs.Operations.{squareRoot, sqrt}
 use Rattle.square_root.specs.Estimate as Estimate
-use Rattle.square_root.specs.Estimate.{isRoot}
 use Rattle.square_root.proofs.Special.{sqrt-fits}
 use Rattle.square_root.proofs.Test.{passed}
 use Rattle.square_root.proofs.passes.Statement.{statement}

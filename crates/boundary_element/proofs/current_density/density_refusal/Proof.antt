@@ -1,8 +1,7 @@
 -- The mesh's number stops the call, or the two checks after the mesh's decide.
-use mathlib.Core.Path.{_≡_}
 use borrow.Author.Tests.{ne-eqb, eq-eqb}
 use denote.Ref.{now}
-use Rattle.mesh.specs.Refusal.{first}
+use Rattle.refusal.specs.Checks.{first}
 use Rattle.mesh.specs.Mesh.{Mesh, meshOf, nnode, ntri, maxNodes, maxPanels}
 use Rattle.mesh.proofs.Refusals.{mesh-stopped, mesh-passed}
 use Rattle.boundary_element.specs.CurrentDensity.{densityChecks, densityRefusal}

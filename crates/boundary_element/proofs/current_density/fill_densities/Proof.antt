@@ -1,5 +1,5 @@
 -- After i turns the first i numbers of each column are those of the definition; at the end all are.
-use mathlib.Core.Path.{_≡_, sym, ap, _∙_}
+use mathlib.Core.Path.{_≡_, ap}
 use mathlib.Core.List.{List}
 use Prim.Native.Nat.{ℕ, _≤_, _<_, _-_}
 use native.Mathlib.Omega.{arith}
@@ -7,8 +7,9 @@ use denote.Ref.{now}
 use lib.ListN.{length}
 use lib.Ieee.{Float}
 use Rattle.binary64.specs.Binary64.{at}
-use Rattle.mesh.specs.Filling.{filled, fill-start, column-long, column-turn, column-end}
-use Rattle.mesh.specs.Mesh.{meshOf, ntri}
+use Rattle.lists.specs.Filling.{filled}
+use Rattle.lists.proofs.Filling.{fill-start, column-long, column-turn, column-end}
+use Rattle.mesh.specs.Mesh.{meshOf}
 use Rattle.boundary_element.specs.CurrentDensity.{panelDensity, currentDensities}
 use Rattle.boundary_element.proofs.current_density.fill_densities.Reads as reads
 use Rattle.boundary_element.proofs.current_density.fill_densities.Lts as lts

@@ -1,10 +1,9 @@
 -- A refusal leaves the outputs as they were; a call that is done is ready for the loop, which fills them.
-use mathlib.Core.Path.{_≡_, refl, sym, _∙_}
+use mathlib.Core.Path.{refl, sym, _∙_}
 use native.Mathlib.Omega.{arith}
 use denote.Ref.{now}
-use Rattle.mesh.specs.Refusal.{after-done, after-refused}
-use Rattle.mesh.specs.Mesh.{Mesh, meshOf}
-use Rattle.boundary_element.specs.CurrentDensity.{densityRefusal, currentDensities}
+use Rattle.refusal.proofs.Checks.{after-done, after-refused}
+use Rattle.mesh.specs.Mesh.{meshOf}
 use Rattle.boundary_element.proofs.Ready.{ready}
 use Rattle.boundary_element.proofs.current_density.triangle_mesh_current_density.Statement.{statement}
 use Rattle.boundary_element.proofs.current_density.triangle_mesh_current_density.Tie as tie

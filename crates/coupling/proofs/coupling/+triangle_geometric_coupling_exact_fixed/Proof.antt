@@ -3,7 +3,7 @@ use Prim.Native.Nat.{ℕ, _<_}
 use borrow.Author.Needs.{needs}
 use borrow.Fn.Kinds.{In}
 use borrow.Fn.PlainCycle.{Measures, is, falls, and}
-use Rattle.coupling.specs.Coupling.{fixed-leaf, fixed-halves}
+use Rattle.coupling.proofs.Halving.{fixed-leaf, fixed-halves}
 use Rattle.coupling.proofs.coupling.triangle_geometric_coupling_exact_fixed.Reads as reads
 use Rattle.coupling.proofs.coupling.triangle_geometric_coupling_exact_fixed.Kinds as kinds
 use Rattle.coupling.proofs.coupling.triangle_geometric_coupling_exact_directed.Reads as directed

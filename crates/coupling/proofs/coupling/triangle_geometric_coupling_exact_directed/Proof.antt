@@ -1,5 +1,5 @@
 -- The sum over the seven places is the integral's sum over the rule's rows, term by term: a place has its row's weight and the potential at its row's point.
-use mathlib.Core.Path.{_≡_, refl, sym, ap, _∙_}
+use mathlib.Core.Path.{_≡_, refl, ap, _∙_}
 use mathlib.Core.List.{List}
 use Prim.Native.Nat.{ℕ, _<_}
 use native.Mathlib.Nat.{lt-of-lt-of-le}
@@ -12,10 +12,11 @@ use Rattle.potential.specs.Potential.{scalarPotential}
 use Rattle.potential_lanes.specs.Seven.{point}
 use Rattle.potential.specs.declared.UniformTriangle.{UniformTriangle}
 use Rattle.panel_points.specs.declared.Points.{Points}
-use Rattle.panel_points.specs.Points.{coordinates, triangle, pointsOf, sumTo}
-use Rattle.panel_points.proofs.Places.{few, weight-at, point-at, sum-same}
+use Rattle.lists.specs.Sums.{sumTo}
+use Rattle.panel_points.specs.Points.{coordinates, triangle, pointsOf}
+use Rattle.lists.proofs.Sums.{sum-same}
+use Rattle.panel_points.proofs.Places.{few, weight-at, point-at}
 use Rattle.coupling.specs.Coupling as Spec
-use Rattle.coupling.proofs.Rows.{rows-sum}
 use Rattle.coupling.proofs.coupling.triangle_geometric_coupling_exact_directed.Statement.{statement}
 use Rattle.coupling.proofs.coupling.triangle_geometric_coupling_exact_directed.Tie as tie
 
@@ -39,7 +40,6 @@ module _ (source : UniformTriangle) (t : Tri) (kind : QuadratureKind) where
   unfolding Spec.triangleGeometricCouplingExactDirected
   leaf pot all =
       sum-same _ (λ (j : ℕ). Spec.integralRow t (area t) (scalarPotential source) (quadratureRow kind j)) (quadratureCount kind) (term pot all)
-      ∙ sym (rows-sum kind (Spec.integralRow t (area t) (scalarPotential source)) (quadratureCount kind))
 
 weighted-requires : tie.Need-weighted-requires
 weighted-requires c κs = rw (c .before .quadrature-count .ensures) (few _)

@@ -5,7 +5,8 @@ use native.Mathlib.Omega.{arith}
 use borrow.Author.Needs.{needs}
 use lib.ListN.{length}
 use Rattle.linkage.specs.Energy.{rowAdded}
-use Rattle.linkage.proofs.Sums.{row-more}
+use Rattle.lists.specs.Sums.{runningSum}
+use Rattle.lists.proofs.Sums.{sum-more}
 use Rattle.linkage.proofs.energy.add_row.Statement.{statement}
 use Rattle.linkage.proofs.energy.add_row.Tie as tie
 
@@ -16,7 +17,7 @@ abbrev μ-loop : tie.MeasureT-loop
 μ-loop row s t i x n out₀ j₀ out j = length s - j
 
 loop-holds : tie.Need-loop-holds Inv-loop μ-loop
-unfolding rowAdded
+unfolding runningSum
 loop-holds c = (search needs, refl)
 
 mul-out : tie.Need-mul-out Inv-loop μ-loop
@@ -44,7 +45,7 @@ loop-less : tie.Need-loop-less Inv-loop μ-loop
 loop-less c = search needs
 
 loop-again : tie.Need-loop-again Inv-loop μ-loop
-loop-again c = (search needs, rw (row-more, ← c .before .before .before .before .loop .inv .1))
+loop-again c = (search needs, rw (sum-more, ← c .before .before .before .before .loop .inv .1))
 
 returns : tie.Need-returns Inv-loop μ-loop
 returns c =

@@ -2,7 +2,7 @@
 use native.Mathlib.Nat.{mul-le-mul}
 use native.Mathlib.Omega.{arith}
 use borrow.Author.Tests.{lt-ltb, le-ltb, eq-eqb, ne-eqb}
-use Rattle.mesh.specs.Refusal.{first}
+use Rattle.refusal.specs.Checks.{first}
 use Rattle.linkage.specs.Energy.{energyRefusal}
 use Rattle.linkage.proofs.energy.energy_refusal.Statement.{statement}
 use Rattle.linkage.proofs.energy.energy_refusal.Tie as tie

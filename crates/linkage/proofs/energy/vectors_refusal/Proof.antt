@@ -1,6 +1,6 @@
 -- 5 comes first, then what the matrix is tested for.
 use borrow.Author.Tests.{eq-eqb, ne-eqb}
-use Rattle.mesh.specs.Refusal.{first}
+use Rattle.refusal.specs.Checks.{first}
 use Rattle.linkage.specs.Energy.{energyRefusal, vectorsRefusal}
 use borrow.Author.Needs.{needs}
 use Rattle.linkage.proofs.energy.vectors_refusal.Statement.{statement}

@@ -6,7 +6,8 @@ use borrow.Author.Needs.{needs}
 use denote.Ref.{now}
 use lib.ListN.{length}
 use Rattle.linkage.specs.Flux.{interactionTo}
-use Rattle.linkage.proofs.Sums.{interaction-more}
+use Rattle.lists.specs.Sums.{runningSum}
+use Rattle.lists.proofs.Sums.{sum-more}
 use Rattle.linkage.proofs.Sizes.{row-end}
 use Rattle.linkage.proofs.flux.add_interaction.Statement.{statement}
 use Rattle.linkage.proofs.flux.add_interaction.Tie as tie
@@ -18,7 +19,7 @@ abbrev μ-loop : tie.MeasureT-loop
 μ-loop map values coefficients n out₀ i₀ out i = length values - i
 
 loop-holds : tie.Need-loop-holds Inv-loop μ-loop
-unfolding interactionTo
+unfolding runningSum
 loop-holds c = (search needs, refl)
 
 mul-out : tie.Need-mul-out Inv-loop μ-loop
@@ -41,7 +42,7 @@ loop-less : tie.Need-loop-less Inv-loop μ-loop
 loop-less c = search needs
 
 loop-again : tie.Need-loop-again Inv-loop μ-loop
-loop-again c = (search needs, rw (interaction-more, ← c .before .before .before .loop .inv .1, c .row-flux .ensures))
+loop-again c = (search needs, rw (sum-more, ← c .before .before .before .loop .inv .1, c .row-flux .ensures))
 
 returns : tie.Need-returns Inv-loop μ-loop
 returns c =

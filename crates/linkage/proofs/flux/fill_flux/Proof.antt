@@ -5,7 +5,8 @@ use native.Mathlib.Omega.{arith}
 use borrow.Author.Needs.{needs}
 use denote.Ref.{now}
 use lib.ListN.{length}
-use Rattle.mesh.specs.Filling.{filled, fill-start, column-long, column-turn, column-end}
+use Rattle.lists.specs.Filling.{filled}
+use Rattle.lists.proofs.Filling.{fill-start, column-long, column-turn, column-end}
 use Rattle.linkage.specs.Flux.{rowFlux}
 use Rattle.linkage.proofs.Sizes.{row-end}
 use Rattle.linkage.proofs.flux.fill_flux.Statement.{statement}

@@ -5,7 +5,8 @@ use native.Mathlib.Omega.{arith}
 use borrow.Author.Needs.{needs}
 use lib.ListN.{length}
 use Rattle.linkage.specs.Flux.{fluxTo}
-use Rattle.linkage.proofs.Sums.{flux-more}
+use Rattle.lists.specs.Sums.{runningSum}
+use Rattle.lists.proofs.Sums.{sum-more}
 use Rattle.linkage.proofs.flux.flux_of_row.Statement.{statement}
 use Rattle.linkage.proofs.flux.flux_of_row.Tie as tie
 
@@ -16,7 +17,7 @@ abbrev μ-loop : tie.MeasureT-loop
 μ-loop row coefficients n psi₀ k₀ psi k = length coefficients - k
 
 loop-holds : tie.Need-loop-holds Inv-loop μ-loop
-unfolding fluxTo
+unfolding runningSum
 loop-holds c = (search needs, refl)
 
 mul-psi : tie.Need-mul-psi Inv-loop μ-loop
@@ -38,7 +39,7 @@ loop-less : tie.Need-loop-less Inv-loop μ-loop
 loop-less c = search needs
 
 loop-again : tie.Need-loop-again Inv-loop μ-loop
-loop-again c = (search needs, rw (flux-more, ← c .before .before .before .loop .inv .1))
+loop-again c = (search needs, rw (sum-more, ← c .before .before .before .loop .inv .1))
 
 returns : tie.Need-returns Inv-loop μ-loop
 returns c =

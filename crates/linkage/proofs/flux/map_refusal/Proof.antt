@@ -1,5 +1,5 @@
 -- Each exit follows the list of checks.
-use Rattle.mesh.specs.Refusal.{first}
+use Rattle.refusal.specs.Checks.{first}
 use Rattle.linkage.specs.Flux.{mapRefusal}
 use borrow.Author.Needs.{needs}
 use Rattle.linkage.proofs.flux.map_refusal.Statement.{statement}

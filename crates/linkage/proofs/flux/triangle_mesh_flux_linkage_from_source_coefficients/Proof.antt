@@ -1,6 +1,6 @@
 -- A refusal leaves the output as it was; else the map has a row for each number of the output.
 use mathlib.Core.Path.{refl, sym, _∙_}
-use Rattle.mesh.specs.Refusal.{after-done, after-refused}
+use Rattle.refusal.proofs.Checks.{after-done, after-refused}
 use Rattle.linkage.proofs.Sizes.{map-sized}
 use borrow.Author.Needs.{needs}
 use Rattle.linkage.proofs.flux.triangle_mesh_flux_linkage_from_source_coefficients.Statement.{statement}

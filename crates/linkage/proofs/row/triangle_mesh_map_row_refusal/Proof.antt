@@ -1,6 +1,6 @@
 -- Each exit follows the list of checks.
 use borrow.Author.Tests.{le-leb, lt-leb}
-use Rattle.mesh.specs.Refusal.{first}
+use Rattle.refusal.specs.Checks.{first}
 use Rattle.linkage.specs.Row.{mapRowRefusal}
 use borrow.Author.Needs.{needs}
 use Rattle.linkage.proofs.row.triangle_mesh_map_row_refusal.Statement.{statement}

@@ -2,7 +2,7 @@
 use borrow.Author.Tests.{le-leb, lt-leb}
 use denote.Ref.{now}
 use lib.ListN.{length}
-use Rattle.mesh.specs.Refusal.{first}
+use Rattle.refusal.specs.Checks.{first}
 use Rattle.linkage.proofs.Sizes.{row-stopped, row-passed}
 use borrow.Author.Needs.{needs}
 use Rattle.linkage.proofs.row.triangle_mesh_matrix_row_refusal.Statement.{statement}

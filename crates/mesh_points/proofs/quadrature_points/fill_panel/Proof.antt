@@ -1,6 +1,6 @@
 -- After k turns the first k points from index start are written.
-use mathlib.Core.Path.{_≡_, sym, ap, _∙_}
-use Prim.Native.Nat.{ℕ, _≤_, _<_, _-_, _+_}
+use mathlib.Core.Path.{_≡_, ap, _∙_}
+use Prim.Native.Nat.{ℕ, _≤_, _<_, _-_}
 use native.Mathlib.Omega.{arith}
 use denote.Ref.{now}
 use mathlib.Core.List.{List}
@@ -9,7 +9,8 @@ use lib.ListN.{length}
 use Rattle.binary64.specs.Binary64.{at, _⊗_}
 use Rattle.tri.specs.Quadrature.{quadratureCount, quadratureRow}
 use Rattle.tri.proofs.Counts.{count-between}
-use Rattle.mesh.specs.Filling.{run, run-start, run-length, run-next}
+use Rattle.lists.specs.Filling.{run}
+use Rattle.lists.proofs.Filling.{run-start, run-length, run-next}
 use Rattle.mesh_points.specs.QuadraturePoints.{quadraturePoint, quadratureWeight}
 use Rattle.mesh_points.proofs.quadrature_points.fill_panel.Reads as reads
 use Rattle.mesh_points.proofs.quadrature_points.fill_panel.Lts as lts

@@ -1,7 +1,6 @@
 -- After i panels the first i·count numbers of each column are those of the definition; at the end all are.
-use mathlib.Core.Path.{_≡_, sym, ap, _∙_}
-use mathlib.Core.List.{List}
-use Prim.Native.Nat.{ℕ, zero, suc, _≤_, _<_, _-_, _+_, _*_}
+use mathlib.Core.Path.{_≡_, ap}
+use Prim.Native.Nat.{ℕ, zero, suc, _≤_, _<_, _-_, _*_}
 use native.Mathlib.Nat.{mul-le-mul}
 use native.Mathlib.Omega.{arith}
 use denote.Ref.{now}
@@ -12,8 +11,8 @@ use Rattle.tri.specs.Mapping.{Tri}
 use Rattle.tri.specs.Quadrature.{quadratureCount}
 use Rattle.tri.specs.declared.quadrature.QuadratureKind.{QuadratureKind}
 use Rattle.tri.proofs.Counts.{count-between}
-use Rattle.mesh.specs.Filling.{filled}
-use Rattle.mesh.specs.Mesh.{Mesh, meshOf}
+use Rattle.lists.specs.Filling.{filled}
+use Rattle.mesh.specs.Mesh.{meshOf}
 use Rattle.mesh_points.specs.QuadraturePoints.{quadraturePoint, quadratureWeight, meshPoints, meshWeights}
 use Rattle.mesh_points.proofs.Panels.{column, panels-start, panels-long, panels-room, panels-turn, panels-end}
 use Rattle.mesh_points.proofs.quadrature_points.fill_points.Statement.{statement}

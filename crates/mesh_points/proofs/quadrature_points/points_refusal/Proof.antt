@@ -1,12 +1,12 @@
 -- The mesh's number stops the call, or the check after the mesh's decides.
-use mathlib.Core.Path.{_≡_, sym, ap, _∙_}
+use mathlib.Core.Path.{sym, ap, _∙_}
 use Prim.Native.Nat.{ℕ, _*_, _≤_}
 use native.Mathlib.Nat.{mul-le-mul}
 use native.Mathlib.Omega.{arith}
 use denote.Ref.{now}
 use lib.ListN.{length}
 use Rattle.tri.proofs.Counts.{count-between}
-use Rattle.mesh.specs.Refusal.{first}
+use Rattle.refusal.specs.Checks.{first}
 use Rattle.mesh.specs.Mesh.{Mesh, meshOf, ntri, maxNodes, maxPanels}
 use Rattle.mesh.proofs.Refusals.{numbered, mesh-stopped, mesh-passed}
 use Rattle.mesh_points.specs.QuadraturePoints.{pointChecks, pointsRefusal}

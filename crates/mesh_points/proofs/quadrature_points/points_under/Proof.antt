@@ -1,8 +1,8 @@
 -- A refusal leaves the outputs as they were; a call that is done is ready for the loop, which fills them.
-use mathlib.Core.Path.{_≡_, refl, sym, _∙_}
+use mathlib.Core.Path.{refl, sym, _∙_}
 use native.Mathlib.Omega.{arith}
 use denote.Ref.{now}
-use Rattle.mesh.specs.Refusal.{after-done, after-refused}
+use Rattle.refusal.proofs.Checks.{after-done, after-refused}
 use Rattle.mesh.specs.Mesh.{meshOf}
 use Rattle.mesh_points.proofs.Ready.{points-ready}
 use Rattle.mesh_points.proofs.quadrature_points.points_under.Statement.{statement}

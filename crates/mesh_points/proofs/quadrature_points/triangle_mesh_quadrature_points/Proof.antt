@@ -1,9 +1,8 @@
 -- The rule of the number decides: under a rule the call is `points_under`, with none it is 12 and nothing is written.
-use mathlib.Core.Path.{_≡_, refl, sym, _∙_}
+use mathlib.Core.Path.{_≡_, refl, sym}
 use Prim.Native.Nat.{ℕ}
 use native.Mathlib.Omega.{arith}
-use denote.Ref.{now}
-use Rattle.mesh.specs.Refusal.{after-refused}
+use Rattle.refusal.proofs.Checks.{after-refused}
 use Rattle.mesh_points.proofs.quadrature_points.triangle_mesh_quadrature_points.Statement.{statement}
 use Rattle.mesh_points.proofs.quadrature_points.triangle_mesh_quadrature_points.Tie as tie
 

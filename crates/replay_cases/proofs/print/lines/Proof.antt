@@ -2,7 +2,8 @@
 use mathlib.Core.Path.{_≡_, refl}
 use Prim.Native.Nat.{_≤_, _-_}
 use native.Mathlib.Omega.{arith}
-use Rattle.replay_cases.specs.Tally.{total, total-more}
+use Rattle.replay_cases.specs.Tally.{total}
+use Rattle.replay_cases.proofs.Totals.{total-more}
 use borrow.Author.Needs.{needs}
 use Rattle.replay_cases.proofs.print.lines.Statement.{statement}
 use Rattle.replay_cases.proofs.print.lines.Tie as tie

@@ -3,7 +3,8 @@ use mathlib.Core.Path.{_≡_, refl}
 use Prim.Native.Nat.{_+_, _*_, _-_, _≤_}
 use native.Mathlib.Omega.{arith}
 use borrow.Author.Needs.{needs}
-use Rattle.replay_columns.specs.Columns.{columnAt, column-next}
+use Rattle.replay_columns.specs.Columns.{columnAt}
+use Rattle.replay_columns.proofs.Ends.{column-next}
 use Rattle.replay_columns.proofs.columns.column_at.Statement.{statement}
 use Rattle.replay_columns.proofs.columns.column_at.Tie as tie
 

@@ -3,7 +3,8 @@ use Prim.Native.Nat.{_+_, _-_, _≤_}
 use native.Mathlib.Omega.{arith}
 use borrow.Author.Needs.{needs}
 use Rattle.replay_words.proofs.Lent.{at-most}
-use Rattle.replay_columns.specs.Columns.{column, column-next}
+use Rattle.replay_columns.specs.Columns.{column}
+use Rattle.replay_columns.proofs.Ends.{column-next}
 use Rattle.replay_columns.proofs.columns.nodes.Statement.{statement}
 use Rattle.replay_columns.proofs.columns.nodes.Tie as tie
 

@@ -1,6 +1,7 @@
 -- The column ends where the next begins.
 use borrow.Author.Needs.{needs}
-use Rattle.replay_columns.specs.Columns.{column, column-next}
+use Rattle.replay_columns.specs.Columns.{column}
+use Rattle.replay_columns.proofs.Ends.{column-next}
 use Rattle.replay_columns.proofs.columns.panels.Statement.{statement}
 use Rattle.replay_columns.proofs.columns.panels.Tie as tie
 

@@ -6,7 +6,8 @@ use mir.Syntax.{w64}
 use borrow.Author.Needs.{needs, fits-under}
 use denote.Ref.{now}
 use lib.ListN.{length}
-use Rattle.replay_words.specs.Buffers.{heldTo, held-more}
+use Rattle.replay_words.specs.Buffers.{heldTo}
+use Rattle.replay_words.proofs.Comparing.{held-more}
 use Rattle.replay_words.proofs.buffers.held.Statement.{statement}
 use Rattle.replay_words.proofs.buffers.held.Tie as tie
 

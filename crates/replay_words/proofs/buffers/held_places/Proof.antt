@@ -6,7 +6,8 @@ use mir.Syntax.{w64}
 use borrow.Author.Needs.{needs, fits-under}
 use denote.Ref.{now}
 use lib.ListN.{length}
-use Rattle.replay_words.specs.Buffers.{placesTo, places-more}
+use Rattle.replay_words.specs.Buffers.{placesTo}
+use Rattle.replay_words.proofs.Comparing.{places-more}
 use Rattle.replay_words.proofs.buffers.held_places.Statement.{statement}
 use Rattle.replay_words.proofs.buffers.held_places.Tie as tie
 

@@ -5,7 +5,8 @@ use native.Mathlib.Omega.{arith}
 use borrow.Author.Needs.{needs}
 use denote.Ref.{now}
 use lib.ListN.{length}
-use Rattle.replay_words.specs.Buffers.{sameTo, same-more}
+use Rattle.replay_words.specs.Buffers.{sameTo}
+use Rattle.replay_words.proofs.Comparing.{same-more}
 use Rattle.replay_words.proofs.buffers.same_numbers.Statement.{statement}
 use Rattle.replay_words.proofs.buffers.same_numbers.Tie as tie
 

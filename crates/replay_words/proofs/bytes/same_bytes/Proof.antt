@@ -6,7 +6,8 @@ use borrow.Author.Tests.{eq-eqb, ne-eqb}
 use borrow.Author.Needs.{needs}
 use denote.Ref.{now}
 use lib.ListN.{length}
-use Rattle.replay_words.specs.Bytes.{sameBytes, bytesTo, bytes-more}
+use Rattle.replay_words.specs.Bytes.{sameBytes, bytesTo}
+use Rattle.replay_words.proofs.ComparingBytes.{bytes-more}
 use Rattle.replay_words.proofs.bytes.same_bytes.Statement.{statement}
 use Rattle.replay_words.proofs.bytes.same_bytes.Tie as tie
 

@@ -1,11 +1,10 @@
--- The answer's two fields, by the call's contract.
-use mathlib.Core.Path.{ap}
-use Rattle.coupling.specs.declared.calls.Answer.{Answer}
+-- The answer's two fields; each call's contract put into the next.
+use Rattle.screens_panels.proofs.Answers.{valued}
 use Rattle.screens_panels.proofs.pairs.screens_coupling_regular.Statement.{statement}
 use Rattle.screens_panels.proofs.pairs.screens_coupling_regular.Tie as tie
 
 returns : tie.Need-returns
-returns c = let e = c .triangle-geometric-coupling-regular .ensures in record { number = ap (λ (a : Answer). a .refusal) e; lent = ap (λ (a : Answer). a .value) e }
+returns c = valued (c .triangle-geometric-coupling-regular .result) _ (rw (c .triangle-geometric-coupling-regular .ensures, c .before .three2 .ensures, c .before .before .before .three .ensures))
 
 pub screens-coupling-regular-spec : {M : Type 1} → statement M
-screens-coupling-regular-spec = tie.close (tie.spec (λ c κs. tt) returns)
+screens-coupling-regular-spec = tie.close (tie.spec (λ c κs. tt) (λ c κs. tt) (λ c κs. tt) returns)

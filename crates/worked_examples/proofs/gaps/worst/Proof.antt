@@ -3,7 +3,8 @@ use mathlib.Core.Path.{_≡_, refl}
 use Prim.Native.Nat.{_≤_, _-_}
 use native.Mathlib.Omega.{arith}
 use borrow.Author.Needs.{needs}
-use Rattle.worked_examples.specs.Gaps.{worst, worst-more}
+use Rattle.worked_examples.specs.Gaps.{worst}
+use Rattle.worked_examples.proofs.Worst.{worst-more}
 use Rattle.worked_examples.proofs.gaps.worst.Statement.{statement}
 use Rattle.worked_examples.proofs.gaps.worst.Tie as tie
 

@@ -6,7 +6,7 @@ use lib.IntN.{ℤ, pos}
 use lib.Ieee.{ofBits}
 use borrow.Author.Needs.{needs}
 use Rattle.binary64.specs.Binary64.{bits}
-use Rattle.mesh.specs.Refusal.{first}
+use Rattle.refusal.specs.Checks.{first}
 use Rattle.display.specs.Display.{Displayed, displayRefusal, outOfRange, nanohenries, roundHalfAway, shown, withSign}
 use Rattle.worked_examples.proofs.sheet.displayed.Statement.{statement}
 use Rattle.worked_examples.proofs.sheet.displayed.Tie as tie

@@ -1,7 +1,7 @@
 -- The call is not refused, so its value is the one due.
 use mathlib.Core.Path.{_∙_}
 use borrow.Author.Needs.{needs}
-use Rattle.mesh.specs.Refusal.{first}
+use Rattle.refusal.specs.Checks.{first}
 use Rattle.linkage.specs.Answer.{valueAfter}
 use Rattle.linkage.specs.Energy.{energyRefusal}
 use Rattle.worked_examples.proofs.sheet.energy.Statement.{statement}

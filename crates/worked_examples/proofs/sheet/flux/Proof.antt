@@ -1,7 +1,7 @@
 -- The call is not refused, so the output is filled.
 use mathlib.Core.Path.{_∙_}
 use borrow.Author.Needs.{needs}
-use Rattle.mesh.specs.Refusal.{first, after}
+use Rattle.refusal.specs.Checks.{first, after}
 use Rattle.linkage.specs.Flux.{mapRefusal, lacksSources, brokenRows, rowsDiffer}
 use Rattle.worked_examples.proofs.sheet.flux.Statement.{statement}
 use Rattle.worked_examples.proofs.sheet.flux.Tie as tie

@@ -3,7 +3,7 @@ use super::QuadratureKind;
 use crate::Refusal;
 use crate::ffi;
 use crate::mesh::TriangleMeshView;
-use crate::refusal::{done, filled, rows, valued};
+use crate::refusal::{done, rows, valued};
 
 /// The geometric coupling (m³) of a source and a target panel: near or far by document 01's rule.
 ///
@@ -54,9 +54,9 @@ pub fn triangle_basis_mutual_inductance_block(
     tgt2: [f64; 3],
     quad_kind: QuadratureKind,
 ) -> [[f64; 3]; 3] {
-    rows(filled(|out| {
+    rows(chosen(valued(|out| {
         ffi::mutual_inductance_block(quad_kind.number(), [src0, src1, src2], [tgt0, tgt1, tgt2], out)
-    }))
+    })))
 }
 
 /// One inductance (H) of the block. Refused with 12 for a corner above 2, where the original stops the program.
@@ -142,8 +142,8 @@ pub fn move_node(
     place: [f64; 3],
 ) -> Result<usize, Refusal> {
     let ((x, y, z), (t0, t1, t2)) = (nodes, triangles);
-    let rule = quad_kind.number();
-    valued(|count| ffi::move_node(rule, x, y, z, t0, t1, t2, matrix, node, place, count))
+    let (rule, [px, py, pz]) = (quad_kind.number(), place);
+    valued(|count| ffi::move_node(rule, x, y, z, t0, t1, t2, matrix, node, px, py, pz, count))
 }
 
 /// The answer of a call whose only refusal is for the number of a rule, which a `QuadratureKind` always is.

@@ -47,7 +47,7 @@ pub fn triangle_max_edge_squared(nodes: Triangle) -> f64 {
 
 /// The two halves of a triangle, cut at its longest edge, the first of equal ones.
 pub fn longest_edge_bisection(nodes: Triangle) -> [Triangle; 2] {
-    let out: [f64; 18] = filled(|out| ffi::longest_edge_bisection(nodes, out));
+    let out = filled(|out| ffi::longest_edge_bisection(nodes, out));
     let half = |from: usize| rows(std::array::from_fn(|i| out[from + i]));
     [half(0), half(9)]
 }

@@ -33,7 +33,7 @@ pub struct UniformTriangle {
 impl UniformTriangle {
     /// Works the panel out.
     pub fn new(n0: [f64; 3], n1: [f64; 3], n2: [f64; 3]) -> Self {
-        let record: [f64; 34] = filled(|out| ffi::record([n0, n1, n2], out));
+        let record = filled(|out| ffi::record([n0, n1, n2], out));
         let three = |from: usize| std::array::from_fn(|i| record[from + i]);
         let nine = |from: usize| rows(std::array::from_fn(|i| record[from + i]));
         UniformTriangle {

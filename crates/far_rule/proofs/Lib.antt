@@ -1,4 +1,0 @@
-pub mod Mirror
-pub mod Sums
-pub mod Symmetric
-pub mod Rows

@@ -1,0 +1,4 @@
+pub mod Counting
+pub mod Filling
+pub mod Lent
+pub mod Sums

@@ -1,0 +1,5 @@
+pub mod Mirror
+pub mod Sums
+pub mod Symmetric
+pub mod Rows
+pub mod Points
