@@ -240,10 +240,10 @@ uint32_t screens_mesh_interaction_energy(const double *map, size_t nmap, const d
 
 /* Where the row of a node begins in a matrix of n nodes, and how long it is. Refuses with 11, 7, 13. */
 uint32_t screens_matrix_row(const double *matrix, size_t nmatrix, size_t n, size_t node, size_t *offset,
-    size_t *length);
+    size_t *count);
 
 /* Where the row of a node begins in a map of so many sources, and how long it is. Refuses with 8, 9, 13. */
-uint32_t screens_map_row(const double *map, size_t nmap, size_t sources, size_t node, size_t *offset, size_t *length);
+uint32_t screens_map_row(const double *map, size_t nmap, size_t sources, size_t node, size_t *offset, size_t *count);
 
 /* ---- files and display ------------------------------------------------------------------------------------------- */
 

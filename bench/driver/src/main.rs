@@ -171,24 +171,32 @@ fn row(label: &str, cells: &[Option<(f64, f64)>]) {
     );
 }
 
+/// The rules of a word such as 135, which stands in where there is none.
+fn digits(word: Option<&String>) -> Vec<u32> {
+    let word = word.map_or("135", String::as_str);
+    word.bytes().map(|b| (b - b'0') as u32).collect()
+}
+
 fn main() {
     let words: Vec<String> = std::env::args().skip(1).collect();
+    if let [first, what @ ..] = &words[..]
+        && first == "ours"
+    {
+        return screens::ours(
+            &digits(what.first()),
+            what.get(1).map_or(3, |s| s.parse().expect("sizes")),
+        );
+    }
     let [portable, native, what @ ..] = &words[..] else {
-        panic!("usage: driver PORTABLE NATIVE [matrix | moves]")
+        panic!("usage: driver PORTABLE NATIVE [matrix | moves], or: driver ours [RULES [SIZES]]")
     };
     let ((portable, portable_matrix), (native, native_matrix)) = (rust(portable), rust(native));
     match what.first().map(String::as_str) {
         Some("matrix") => {
-            let rules: Vec<u32> = what
-                .get(1)
-                .map_or("135", String::as_str)
-                .bytes()
-                .map(|b| (b - b'0') as u32)
-                .collect();
             return screens::table(
                 portable_matrix,
                 native_matrix,
-                &rules,
+                &digits(what.get(1)),
                 what.get(2).map_or(3, |s| s.parse().expect("sizes")),
                 what.get(3).map_or(5, |s| s.parse().expect("rounds")),
             );

@@ -284,6 +284,31 @@ pub fn table(portable: Matrix, native: Matrix, rules: &[u32], sizes: usize, roun
     }
 }
 
+/// A line for each screen and rule: its kind, its nodes, the rule, seconds of thread time of a fresh matrix and of a move.
+pub fn ours(rules: &[u32], sizes: usize) {
+    for (width, height) in &SIZES[..sizes] {
+        for bent in [false, true] {
+            let screen = Screen::new(*width, *height, bent);
+            let n = screen.count();
+            let mut matrix = vec![f64::NAN; n * n];
+            for &rule in rules {
+                let fresh = timed(|| screen.ours(rule, &mut matrix));
+                let mut moved = screen.clone();
+                let node = n / 2 + width / 2;
+                let [x, y, z] = moved.nodes.each_ref().map(|c| c[node]);
+                let place = [x + 0.1, y - 0.1, z + 0.05];
+                let renewed = timed(|| {
+                    moved.move_node(rule, &mut matrix, node, place);
+                });
+                println!(
+                    "{} {n} {rule} {fresh:.6} {renewed:.6}",
+                    if bent { "bent" } else { "flat" }
+                );
+            }
+        }
+    }
+}
+
 /// Runs of moves of single nodes from a fresh matrix, each compared in every cell, coordinate and count with the original's
 /// fresh matrix of the mesh as it then stands.
 pub fn moves(native: Matrix, each: usize) {

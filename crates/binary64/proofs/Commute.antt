@@ -24,18 +24,17 @@ finite-comm s t m e n d (fin u p c) =
     ∙ ap (λ (w : ℕ). sum binary64 (unlike t s) (w * down c) u (p * up c * (down e * down d)) (down e * down d * down c)) (mul-comm (m * up e) (n * up d))
     ∙ ap (λ (w : ℕ). sum binary64 (unlike t s) (n * up d * (m * up e) * down c) u (p * up c * w) (w * down c)) (mul-comm (down e) (down d))
 
--- a × b + c is b × a + c
-pub fma-comm : (a b c : Float) → fma a b c ≡ fma b a c
+pub factors-commute : (a b c : Float) → fma a b c ≡ fma b a c
 unfolding fma mul add
-fma-comm nan nan c = refl
-fma-comm nan (inf t) c = refl
-fma-comm nan (fin t n d) c = refl
-fma-comm (inf s) nan c = refl
-fma-comm (inf s) (inf t) c = ap (λ (w : Bool). add binary64 (inf w) c) (unlike-comm s t)
-fma-comm (inf s) (fin t n d) c = ap (λ (w : Bool). add binary64 (cond (eqb n 0) nan (inf w)) c) (unlike-comm s t)
-fma-comm (fin s m e) nan c = refl
-fma-comm (fin s m e) (inf t) c = ap (λ (w : Bool). add binary64 (cond (eqb m 0) nan (inf w)) c) (unlike-comm s t)
-fma-comm (fin s m e) (fin t n d) c = finite-comm s t m e n d c
+factors-commute nan nan c = refl
+factors-commute nan (inf t) c = refl
+factors-commute nan (fin t n d) c = refl
+factors-commute (inf s) nan c = refl
+factors-commute (inf s) (inf t) c = ap (λ (w : Bool). add binary64 (inf w) c) (unlike-comm s t)
+factors-commute (inf s) (fin t n d) c = ap (λ (w : Bool). add binary64 (cond (eqb n 0) nan (inf w)) c) (unlike-comm s t)
+factors-commute (fin s m e) nan c = refl
+factors-commute (fin s m e) (inf t) c = ap (λ (w : Bool). add binary64 (cond (eqb m 0) nan (inf w)) c) (unlike-comm s t)
+factors-commute (fin s m e) (fin t n d) c = finite-comm s t m e n d c
 
 unlike-plus : (s : Bool) → unlike s false ≡ s
 unlike-plus true = refl
@@ -60,6 +59,5 @@ times-one nan c = refl
 times-one (inf s) c = ap (λ (w : Bool). add binary64 (inf w) c) (unlike-plus s)
 times-one (fin s m e) c = finite-one s m e c
 
--- a × 1 + c is a + c
-pub fma-one : (a c : Float) → fma a one c ≡ add binary64 a c
-fma-one a c = ap (λ (w : Float). fma a w c) one-is ∙ times-one a c
+pub by-one : (a c : Float) → fma a one c ≡ add binary64 a c
+by-one a c = ap (λ (w : Float). fma a w c) one-is ∙ times-one a c

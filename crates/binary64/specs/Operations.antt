@@ -1,5 +1,6 @@
 -- The Rust's `mul_add` and `sqrt`: IEEE 754's fusedMultiplyAdd and squareRoot at binary64 (IEEE 754-2019, 5.4.1), which the toolchain's model lacks, each rounded once to nearest, ties to
--- even, over whole numbers. A finite value `fin s m e` is the fraction (m * up e) / down e, negative where s is true; `round` and `sum` are the model's. Definitions only.
+-- even, over whole numbers. A finite value `fin s m e` is the fraction (m * up e) / down e, negative where s is true; `round` and `sum` are the model's. That each
+-- is the nearest value: `proofs/Theorems`; at closed numbers: `proofs/Examples`. Definitions only.
 use Prim.Native.Nat.{ℕ, zero, suc, _+_, _*_, _/_, _^_}
 use mathlib.Core.Bool.{Bool, false, cond}
 use lib.Dec.{leb, eqb}

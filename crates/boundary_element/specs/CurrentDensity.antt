@@ -2,7 +2,7 @@
 use Prim.Native.Nat.{ℕ}
 use mathlib.Core.Path.{_≡_}
 use mathlib.Core.Logic.{_↔_}
-use mathlib.Core.Bool.{Bool, not, _||_}
+use mathlib.Core.Bool.{not}
 use mathlib.Core.List.{List, [], _∷_, _++_}
 use lib.Dec.{eqb}
 use lib.ListN.{length, getD, set}
@@ -12,6 +12,7 @@ use Rattle.math.specs.Math.{Vec, sub3}
 use Rattle.tri.specs.Mapping.{Tri, corner, area}
 use Rattle.refusal.specs.Numbers.{nodalValues, outputLength, zeroArea}
 use Rattle.refusal.specs.Checks.{Check, check, first, after}
+use Rattle.lists.specs.Columns.{columnsDiffer, ColumnsDue}
 use Rattle.lists.specs.Filling.{tabulate}
 use Rattle.mesh.specs.Conditions.{Refused4, Accepted, MeshNumbered}
 use Rattle.mesh.specs.Mesh.{Mesh, nnode, ntri, triangleIndices, triangleNodes, meshChecks, maxNodes, maxPanels}
@@ -58,30 +59,20 @@ currentDensities m s c = tabulate (ntri m) (λ i. at (panelDensity m s i) c)
 abbrev pub Currents : Mesh → List Float → List Float → List Float → List Float → Type 0
 Currents m s jx jy jz = (jx ≡ currentDensities m s 0) × (jy ≡ currentDensities m s 1) × (jz ≡ currentDensities m s 2)
 
--- 6: an output that has not one number a panel
-unfoldable pub outputsDiffer : ℕ → ℕ → ℕ → ℕ → Bool
-outputsDiffer n a b c = not (eqb a n) || (not (eqb b n) || not (eqb c n))
-
--- the checks after the mesh's, for n nodes and p panels
+-- the checks after the mesh's, for n nodes and p panels: a value a node, one number a panel in each output
 abbrev pub densityChecks : ℕ → ℕ → ℕ → ℕ → ℕ → ℕ → List Check
-densityChecks n p values lx ly lz = check nodalValues (not (eqb values n)) ∷ check outputLength (outputsDiffer p lx ly lz) ∷ []
+densityChecks n p values lx ly lz = check nodalValues (not (eqb values n)) ∷ check outputLength (columnsDiffer p lx ly lz) ∷ []
 
 unfoldable pub densityRefusal : Mesh → ℕ → ℕ → ℕ → ℕ → ℕ
 densityRefusal m values lx ly lz = first (meshChecks maxNodes maxPanels m ++ densityChecks (nnode m) (ntri m) values lx ly lz)
-
--- not 6: each output has one number a panel
-pub record OutputsDue (panels lx ly lz : ℕ) : Type 0 where
-  pub x : lx ≡ panels
-  pub y : ly ≡ panels
-  pub z : lz ≡ panels
 
 -- a number is the call's exactly if its condition holds and no earlier one's; nothing is tested before the mesh
 pub record DensityNumbered (m : Mesh) (values lx ly lz r : ℕ) : Type 0 where
   pub mesh : MeshNumbered Unit maxNodes maxPanels m r
   pub is-4 : (r ≡ zeroArea) ↔ Refused4 maxNodes maxPanels m
   pub is-5 : (r ≡ nodalValues) ↔ (Accepted maxNodes maxPanels m × (values ≡ nnode m → ⊥))
-  pub is-6 : (r ≡ outputLength) ↔ (Accepted maxNodes maxPanels m × (values ≡ nnode m) × (OutputsDue (ntri m) lx ly lz → ⊥))
-  pub is-0 : (r ≡ 0) ↔ (Accepted maxNodes maxPanels m × (values ≡ nnode m) × OutputsDue (ntri m) lx ly lz)
+  pub is-6 : (r ≡ outputLength) ↔ (Accepted maxNodes maxPanels m × (values ≡ nnode m) × (ColumnsDue (ntri m) lx ly lz → ⊥))
+  pub is-0 : (r ≡ 0) ↔ (Accepted maxNodes maxPanels m × (values ≡ nnode m) × ColumnsDue (ntri m) lx ly lz)
 
 -- three columns with v at index i
 pub record Stored (a b c : List Float) (i : ℕ) (v : Vec) (a' b' c' : List Float) : Type 0 where
@@ -90,12 +81,10 @@ pub record Stored (a b c : List Float) (i : ℕ) (v : Vec) (a' b' c' : List Floa
   pub third : c' ≡ set c i (at v 2)
 
 -- columns of one number a panel for a mesh that was accepted, and nodal values for it
-pub record Ready (m : Mesh) (s a b c : List Float) : Type 0 where
+pub record DensityReady (m : Mesh) (s a b c : List Float) : Type 0 where
   pub accepted : Accepted maxNodes maxPanels m
   pub values : length s ≡ nnode m
-  pub first : length a ≡ ntri m
-  pub second : length b ≡ ntri m
-  pub third : length c ≡ ntri m
+  pub due : ColumnsDue (ntri m) (length a) (length b) (length c)
 
 -- what the call answers and leaves in its three outputs
 pub record Densities (m : Mesh) (s jx jy jz : List Float) (r : ℕ) (jx' jy' jz' : List Float) : Type 0 where

@@ -6,7 +6,7 @@ ghost use Rattle.lists.specs.Lent.{passed, left};
 ghost use Rattle.mesh.specs.Mesh.{maxNodes, maxPanels, passedMesh, lentMesh};
 ghost use Rattle.mesh.specs.Conditions.{Accepted};
 ghost use Rattle.boundary_element.specs.CurrentDensity as Spec;
-ghost use Rattle.boundary_element.specs.CurrentDensity.{Stored, Ready, Densities};
+ghost use Rattle.boundary_element.specs.CurrentDensity.{Stored, DensityReady, Densities};
 
 // The density of a unit value at corner 0.
 fn basis_current_density(t: [[f64; 3]; 3]) -> [f64; 3]
@@ -105,7 +105,7 @@ fn fill_densities(
     jy: &mut [f64],
     jz: &mut [f64],
 )
-    requires { ⌜ Ready (lentMesh x y z t0 t1 t2) (now s) (now jx) (now jy) (now jz) ⌝ }
+    requires { ⌜ DensityReady (lentMesh x y z t0 t1 t2) (now s) (now jx) (now jy) (now jz) ⌝ }
     ensures { λ _. ⌜ Spec.Currents (passedMesh x y z t0 t1 t2) (passed s) (left jx) (left jy) (left jz) ⌝ }
 {
     let mut i = 0;
@@ -113,13 +113,6 @@ fn fill_densities(
         store3(jx, jy, jz, i, panel_density(x, y, z, t0, t1, t2, s, i));
         i += 1;
     }
-}
-
-// 6
-fn outputs_differ(n: usize, a: usize, b: usize, c: usize) -> bool
-    ensures { λ r. ⌜ r ≡ Spec.outputsDiffer n a b c ⌝ }
-{
-    (a != n) | ((b != n) | (c != n))
 }
 
 // The number of the call, 0 if it is done.
@@ -144,7 +137,7 @@ fn density_refusal(
     if values != x.len() {
         return refusal::NODAL_VALUES;
     }
-    if outputs_differ(t0.len(), lx, ly, lz) {
+    if lists::columns_differ(t0.len(), lx, ly, lz) {
         return refusal::OUTPUT_LENGTH;
     }
     0

@@ -1,4 +1,4 @@
-// Panels' own numbers, worked out once and kept in one array, seventeen a panel.
+// Panels' own numbers, worked out once and cached in one array.
 ghost use mathlib.Core.Path.{_≡_};
 ghost use mathlib.Core.List.{[], _∷_};
 ghost use Prim.Native.Nat.{_<_, _≤_, _+_, _*_};
@@ -9,22 +9,26 @@ ghost use Rattle.lists.specs.Filling.{run};
 ghost use Rattle.mesh.specs.Mesh.{triangleNodes, passedMesh, lentMesh};
 ghost use Rattle.mesh.specs.Conditions.{NodeColumnsAlike, PanelColumnsAlike, Below, NoneMissing};
 ghost use Rattle.pair.specs.Pair.{panelNumbers};
-ghost use Rattle.cached_panels.specs.Kept as Spec;
+ghost use Rattle.cached_panels.specs.Cache as Spec;
+ghost use Rattle.cached_panels.specs.Cache.{panelNumberCount};
 use pair::Panel;
 
-// Seventeen for each of mesh::MAX_PANELS panels.
-pub const KEPT: usize = 139264;
+// A panel's own numbers besides its corners: area, longest edge squared, box, densities.
+const PANEL_NUMBERS: usize = 17;
+
+// PANEL_NUMBERS for each of mesh::MAX_PANELS panels.
+pub const CACHE_LENGTH: usize = 139264;
 
 // Room for the numbers of as many panels as there may be. A function of its own: who works with the
 // array then knows its length and need not compute it from the array.
-pub fn room() -> [f64; KEPT]
+pub fn room() -> [f64; CACHE_LENGTH]
     ensures { λ r. ⌜ r ≡ Spec.room ⌝ }
 {
-    [0.0; KEPT]
+    [0.0; CACHE_LENGTH]
 }
 
 // A panel's numbers besides its corners.
-fn flat(p: Panel) -> [f64; 17]
+fn flat(p: Panel) -> [f64; PANEL_NUMBERS]
     ensures { λ r. ⌜ r ≡ Spec.flat p ⌝ }
 {
     let lo = p.lo;
@@ -51,78 +55,82 @@ fn flat(p: Panel) -> [f64; 17]
     ]
 }
 
-// Seventeen numbers into the array from `base` up.
-fn store(kept: &mut [f64], base: usize, v: [f64; 17])
-    requires { ⌜ base + 17 ≤ length (now kept) ⌝ }
-    ensures { λ _. ⌜ left kept ≡ run (passed kept) base 17 (at v) 17 ⌝ }
+// A panel's numbers into the array from `base` up.
+fn store(cache: &mut [f64], base: usize, v: [f64; PANEL_NUMBERS])
+    requires { ⌜ base + panelNumberCount ≤ length (now cache) ⌝ }
+    ensures { λ _. ⌜ left cache ≡ run (passed cache) base panelNumberCount (at v) panelNumberCount ⌝ }
 {
     let mut k = 0;
-    while k < 17 {
-        kept[base + k] = v[k];
+    while k < PANEL_NUMBERS {
+        cache[base + k] = v[k];
         k += 1;
     }
 }
 
 // The numbers of every panel.
-pub fn keep_panels(
+pub fn cache_panels(
     x: &[f64],
     y: &[f64],
     z: &[f64],
     t0: &[usize],
     t1: &[usize],
     t2: &[usize],
-    kept: &mut [f64],
+    cache: &mut [f64],
 )
     requires { ⌜ NodeColumnsAlike (lentMesh x y z t0 t1 t2) ⌝ }
     requires { ⌜ PanelColumnsAlike (lentMesh x y z t0 t1 t2) ⌝ }
     requires { ⌜ NoneMissing (lentMesh x y z t0 t1 t2) ⌝ }
-    requires { ⌜ length (now t0) * 17 ≤ length (now kept) ⌝ }
-    ensures { λ _. ⌜ Spec.Kept (length (passed t0)) (passedMesh x y z t0 t1 t2) (left kept) ⌝ }
+    requires { ⌜ length (now t0) * panelNumberCount ≤ length (now cache) ⌝ }
+    ensures { λ _. ⌜ Spec.Cached (length (passed t0)) (passedMesh x y z t0 t1 t2) (left cache) ⌝ }
 {
     let mut j = 0;
     while j < t0.len() {
         let next = j + 1;
         let p = pair::panel_numbers(mesh::triangle_nodes(x, y, z, t0, t1, t2, j));
-        store(kept, j * 17, flat(p));
+        store(cache, j * PANEL_NUMBERS, flat(p));
         j = next;
     }
 }
 
 // Three numbers from `base + o` up.
-fn three_at(kept: &[f64], base: usize, o: usize) -> [f64; 3]
-    requires { ⌜ (base + 17 ≤ length (now kept)) × (o ≤ 14) ⌝ }
-    ensures { λ r. ⌜ r ≡ at (passed kept) (base + o) ∷ at (passed kept) (base + (o + 1)) ∷ at (passed kept) (base + (o + 2)) ∷ [] ⌝ }
+fn vector_at(cache: &[f64], base: usize, o: usize) -> [f64; 3]
+    requires { ⌜ (base + panelNumberCount ≤ length (now cache)) × (o ≤ 14) ⌝ }
+    ensures { λ r. ⌜ r ≡ at (passed cache) (base + o) ∷ at (passed cache) (base + (o + 1)) ∷ at (passed cache) (base + (o + 2)) ∷ [] ⌝ }
 {
-    [kept[base + o], kept[base + (o + 1)], kept[base + (o + 2)]]
+    [
+        cache[base + o],
+        cache[base + (o + 1)],
+        cache[base + (o + 2)],
+    ]
 }
 
-// The numbers of panel j: the corners from the columns, the others as they were kept.
-pub fn kept_panel(
+// The numbers of panel j: the corners from the columns, the others as they were cached.
+pub fn cached_panel(
     x: &[f64],
     y: &[f64],
     z: &[f64],
     t0: &[usize],
     t1: &[usize],
     t2: &[usize],
-    kept: &[f64],
+    cache: &[f64],
     j: usize,
 ) -> Panel
     requires { ⌜ NodeColumnsAlike (lentMesh x y z t0 t1 t2) ⌝ }
     requires { ⌜ PanelColumnsAlike (lentMesh x y z t0 t1 t2) ⌝ }
     requires { ⌜ (j < length (now t0)) × Below (lentMesh x y z t0 t1 t2) j ⌝ }
-    requires { ⌜ (length (now t0) * 17 ≤ length (now kept)) × Spec.Kept (length (now t0)) (lentMesh x y z t0 t1 t2) (now kept) ⌝ }
+    requires { ⌜ (length (now t0) * panelNumberCount ≤ length (now cache)) × Spec.Cached (length (now t0)) (lentMesh x y z t0 t1 t2) (now cache) ⌝ }
     ensures { λ r. ⌜ r ≡ panelNumbers (triangleNodes (passedMesh x y z t0 t1 t2) j) ⌝ }
 {
-    let base = j * 17;
-    let area = kept[base];
-    let edge = kept[base + 1];
-    let corners = panel_points::nine(mesh::triangle_nodes(x, y, z, t0, t1, t2, j));
-    let lo = three_at(kept, base, 2);
-    let hi = three_at(kept, base, 5);
-    let a = three_at(kept, base, 8);
-    let b = three_at(kept, base, 11);
-    let c = three_at(kept, base, 14);
-    let densities = panel_points::nine([a, b, c]);
+    let base = j * PANEL_NUMBERS;
+    let area = cache[base];
+    let edge = cache[base + 1];
+    let corners = panel_points::coordinates(mesh::triangle_nodes(x, y, z, t0, t1, t2, j));
+    let lo = vector_at(cache, base, 2);
+    let hi = vector_at(cache, base, 5);
+    let a = vector_at(cache, base, 8);
+    let b = vector_at(cache, base, 11);
+    let c = vector_at(cache, base, 14);
+    let densities = panel_points::coordinates([a, b, c]);
     Panel {
         corners,
         area,

@@ -1,2 +1,2 @@
-pub mod Choices
+pub mod Theorems
 pub mod Halving

@@ -3,7 +3,7 @@ use panel_distance::bisection::longest_edge_bisection;
 use panel_distance::distance::triangle_aabb_distance_squared;
 use panel_distance::distance::triangle_distance_squared;
 use panel_distance::distance::triangle_max_edge_squared;
-use panel_points::nine;
+use panel_points::coordinates;
 use panel_points::points_by;
 use panel_points::rows_of;
 use panel_points::weighted;
@@ -17,7 +17,7 @@ use tri::quadrature::quadrature_row;
 ghost use mathlib.Core.Path.{_≡_};
 ghost use Rattle.coupling.specs.Coupling as Spec;
 
-const COUPLING_NEAR_SUBDIVISION_DEPTH: usize = 2;
+pub const COUPLING_NEAR_SUBDIVISION_DEPTH: usize = 2;
 
 // ---- the far rule
 // A row's part of the potential at obs.
@@ -99,7 +99,7 @@ fn triangle_geometric_coupling_exact_directed(
 ) -> f64
     ensures { λ r. ⌜ r ≡ Spec.triangleGeometricCouplingExactDirected source target kind ⌝ }
 {
-    let points = points_by(rows_of(kind), nine(target), area(target));
+    let points = points_by(rows_of(kind), coordinates(target), area(target));
     let x = points.x;
     let y = points.y;
     let z = points.z;

@@ -17,7 +17,7 @@ use Rattle.panel_file.specs.Conditions.{AcceptedFile}
 use Rattle.panel_file.proofs.Refusals as File
 use Rattle.panel_file.proofs.Accepted as Tests
 use Rattle.panel_file.proofs.Decoded as Decoded
-use Rattle.density_text.specs.Text.{maxNodes, maxPanels, inputRefusal, InputNumbered, refusedLine, densities, text, nodalValues, Input}
+use Rattle.density_text.specs.Text.{maxNodes, maxPanels, inputRefusal, refusedLine, densities, text, nodalValues, Input}
 
 -- ---- the numbers of a file have two digits at most
 pub small : (n p extra : ℕ) (b : List ℕ) → fileRefusal n p extra b < 1000
@@ -31,10 +31,6 @@ small n p extra b = go (marksDiffer b) (passesLimits n p (nodeCount b) (panelCou
     go false false false true w = omega arith
     go false false false false true = omega arith
     go false false false false false = omega arith
-
--- ---- the number by its conditions
-pub input-numbered : (b : List ℕ) → InputNumbered b (inputRefusal b)
-input-numbered b = File.file-test-numbered maxNodes maxPanels 1 b
 
 -- ---- which text
 pub text-refused : (b : List ℕ) (r : ℕ) → r ≡ inputRefusal b → (r ≡ 0 → ⊥) → refusedLine r ≡ text b

@@ -1,4 +1,4 @@
 pub mod Rounding
 pub mod Range
-pub mod Numbers
+pub mod Theorems
 pub mod Examples

@@ -1,4 +1,4 @@
--- The size of a float's display value, out of the digits and the place of its pattern: above the largest from place 1042 on, 0 below place 980. Assumes nothing.
+-- The size of a float's display value, out of the significand and the exponent of its pattern: above the largest from exponent 1042 on, 0 below exponent 980. Assumes nothing.
 use mathlib.Core.Path.{_≡_, refl, sym, ap, _∙_, subst}
 use mathlib.Core.Bool.{Bool, true, false, cond, true≢false}
 use Prim.Native.Nat.{ℕ, zero, suc, _+_, _-_, _*_, _/_, _%_, _^_, _≤_, _<_}
@@ -16,7 +16,7 @@ use lib.Ieee.{Float, nan, inf, fin, binary64, up, down, odd, isNan, fits, ofFiel
 use lib.Ieee.Bits.{ofBits-toBits}
 use lib.Ieee.Fits.{down-pos}
 use lib.Ieee.Exact.{HasValue, odd-sign}
-use Rattle.binary64.specs.Pattern.{digitsAt, digitsOf, placeOf}
+use Rattle.binary64.specs.Pattern.{significandAt, significandOf, exponentOf}
 use Rattle.binary64.proofs.Pattern.{opened, bits-value}
 use Rattle.ieee754.specs.Ieee754.{abs, signBit}
 use Rattle.ieee754.proofs.Signs.{sign-bit}
@@ -39,8 +39,8 @@ sized (fin s m e) v h =
     (mul-right-comm (m * up e) nano (2 ^ 1074) ∙ ap (λ (x : ℕ). x * nano) (h .1) ∙ mul-right-comm v (down e) nano) in
     record { range = ap (ltb largest) q; value = ap (withSign s) q }
 
-pub from-pattern : (x : Float) (b : ℕ) → ofBits binary64 b ≡ abs x → placeOf b ≤ 1041 → SizeIs x (nanohenries (digitsOf b * 2 ^ placeOf b) (2 ^ 1074))
-from-pattern x b e h = sized x (digitsOf b * 2 ^ placeOf b) (subst (λ (y : Float). HasValue y false (digitsOf b * 2 ^ placeOf b) (2 ^ 1074)) e (bits-value b (omega arith)))
+pub from-pattern : (x : Float) (b : ℕ) → ofBits binary64 b ≡ abs x → exponentOf b ≤ 1041 → SizeIs x (nanohenries (significandOf b * 2 ^ exponentOf b) (2 ^ 1074))
+from-pattern x b e h = sized x (significandOf b * 2 ^ exponentOf b) (subst (λ (y : Float). HasValue y false (significandOf b * 2 ^ exponentOf b) (2 ^ 1074)) e (bits-value b (omega arith)))
 
 -- ---- large
 at-least : (n d : ℕ) → n / d ≤ roundHalfAway n d
@@ -83,12 +83,12 @@ of-size nan = refl
 of-size (inf s) = refl
 of-size (fin s m e) = refl
 
-pub too-large : (x : Float) (b : ℕ) → b < 2 ^ 63 → ofBits binary64 b ≡ abs x → 1041 < placeOf b → outOfRange x ≡ true
+pub too-large : (x : Float) (b : ℕ) → b < 2 ^ 63 → ofBits binary64 b ≡ abs x → 1041 < exponentOf b → outOfRange x ≡ true
 too-large x b l e h =
     sym (of-size x) ∙ ap outOfRange (sym e ∙ opened b l) ∙ fields-exceed (b / 2 ^ 52) (b % 2 ^ 52) (omega arith) (omega arith)
 
 -- ---- small
-digits-bound : (x t : ℕ) → t < 2 ^ 52 → digitsAt x t < 2 ^ 53
+digits-bound : (x t : ℕ) → t < 2 ^ 52 → significandAt x t < 2 ^ 53
 digits-bound zero t h = omega arith
 digits-bound (suc x) t h = omega arith
 
@@ -98,11 +98,11 @@ vanishes n d p h =
     let l : n < d = omega arith in
     (λ i. cond (ltb (mod-eq-of-lt l i * 2) d) (div-eq-of-lt l i) (suc (div-eq-of-lt l i))) ∙ rw (lt-ltb (n * 2) d h)
 
-pub too-small : (b : ℕ) → placeOf b < 980 → nanohenries (digitsOf b * 2 ^ placeOf b) (2 ^ 1074) ≡ 0
+pub too-small : (b : ℕ) → exponentOf b < 980 → nanohenries (significandOf b * 2 ^ exponentOf b) (2 ^ 1074) ≡ 0
 unfolding nanohenries
 too-small b h =
-    let t = digitsOf b in
-    let p = placeOf b in
+    let t = significandOf b in
+    let p = exponentOf b in
     let few : t < 2 ^ 53 = digits-bound (b / 2 ^ 52) (b % 2 ^ 52) (omega arith) in
     let digits : t * nano * 2 < 2 ^ 84 = omega arith in
     let regroup : t * 2 ^ p * nano * 2 ≡ t * nano * 2 * 2 ^ p = ap (λ (x : ℕ). x * 2) (mul-right-comm t (2 ^ p) nano) ∙ mul-right-comm (t * nano) (2 ^ p) 2 in

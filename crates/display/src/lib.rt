@@ -36,7 +36,7 @@ fn in_units(t: u64) -> u64
     }
 }
 
-// The size of t × 2^p / 2^1074 henries. From place 1042 on it is above the largest, below 980
+// The size of t × 2^p / 2^1074 henries. From exponent 1042 on it is above the largest, below 980
 // under half a nanohenry.
 fn nanohenries(t: u64, p: u64) -> u64
     requires { ⌜ (t < 2 ^ 53) × (980 ≤ p) × (p ≤ 1041) ⌝ }
@@ -73,7 +73,7 @@ pub fn display(x: f64) -> Shown
         };
     }
     let b = f64::to_bits(ieee754::abs(x));
-    let p = binary64::place(b);
+    let p = binary64::exponent(b);
     if p > 1041 {
         return Shown {
             refusal: refusal::DISPLAY_RANGE,
@@ -86,7 +86,7 @@ pub fn display(x: f64) -> Shown
             value: 0,
         };
     }
-    let size = nanohenries(binary64::digits(b), p);
+    let size = nanohenries(binary64::significand(b), p);
     if LARGEST < size {
         return Shown {
             refusal: refusal::DISPLAY_RANGE,

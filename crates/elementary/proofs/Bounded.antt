@@ -13,9 +13,9 @@ use lib.Ieee.{Float, inf, fin, binary64, up, down, sum, add, lt, eq, isNan, ofIn
 use lib.Ieee.Fits.{down-pos}
 use lib.Ieee.Positive.{first-pos}
 use borrow.Author.Tests.{ltb-true, ltb-false, eq-eqb}
-use Rattle.binary64.specs.Binary64.{_⊕_, _⊖_, _⊘_, plusZero, one, two, four}
+use Rattle.binary64.specs.Binary64.{_⊕_, _⊖_, _⊘_, plusZero, one, two, four, π}
 use Rattle.ieee754.specs.Ieee754.{signBit, abs}
-use Rattle.elementary.specs.Elementary.{C, π, horner, reciprocal, reciprocals, Q, ratio, atanAt, atan, firstQuadrant, supplement, atan2}
+use Rattle.elementary.specs.Elementary.{C, horner, reciprocal, reciprocals, Q, ratio, atanAt, atan, firstQuadrant, supplement, atan2}
 use Rattle.binary64.proofs.Bounded.{Within, within, Below, below, AtLeastOne, at-least, wider, round-at-least, mul-below, add-below, sub-below, quotient-below, over-one}
 use Rattle.ieee754.proofs.Bounded.{signed-below}
 
@@ -25,7 +25,7 @@ pub zero-below : Below 0 plusZero
 unfolding ofBits
 zero-below = below (lit≤ tt)
 
-pub one-below : Below 0 one
+one-below : Below 0 one
 unfolding ofBits
 one-below = below (lit≤ tt)
 
@@ -101,7 +101,7 @@ some m zero e d x h =
         clash : (x c : ℕ) → 0 < x → c ≡ 0 → x ≤ c → ⊥
         clash x c h e l = omega arith
 
-pub ratio-below : {j k : ℕ} {a b : Float} → Within false j a → Within false k b → Below 0 (ratio a b)
+ratio-below : {j k : ℕ} {a b : Float} → Within false j a → Within false k b → Below 0 (ratio a b)
 unfolding ratio lt
 ratio-below (within {m = m} {e = e} h) (within {m = n} {e = d} g) =
     go (eq (fin false m e) plusZero && eq (fin false n d) plusZero) (eq (fin false m e) (inf false) && eq (fin false n d) (inf false)) (Ieee.lt (fin false n d) (fin false m e)) refl refl

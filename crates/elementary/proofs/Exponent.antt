@@ -53,7 +53,7 @@ difference f (fin false m e) (fin false n d) a b v w =
     let q : n * up d * down e ≡ b * (down e * down d) = ap (λ (x : ℕ). x * down e) (sym (mul-one (n * up d)) ∙ w .1) ∙ mul-assoc b (down d) (down e) ∙ ap (λ (x : ℕ). b * x) (mul-comm (down d) (down e)) in
     rw (p, q) (either f a b (down e * down d) (mul-pos (down-pos e) (down-pos d)))
 
-pub whole-difference : (f : Format) (a b : ℕ) → a ≤ 2 ^ prec f → b ≤ 2 ^ prec f → sub f (ofInt f (pos a)) (ofInt f (pos b)) ≡ ofInt f (subℕ a b)
+whole-difference : (f : Format) (a b : ℕ) → a ≤ 2 ^ prec f → b ≤ 2 ^ prec f → sub f (ofInt f (pos a)) (ofInt f (pos b)) ≡ ofInt f (subℕ a b)
 unfolding ofInt
 whole-difference f a b h k = difference f (round f false a 1) (round f false b 1) a b (round-whole f false a h) (round-whole f false b k)
 

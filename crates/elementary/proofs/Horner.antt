@@ -13,7 +13,7 @@ use Rattle.binary64.specs.Binary64.{at, _⊗_}
 use Rattle.elementary.specs.Elementary.{horner}
 
 -- p has taken the first i coefficients of cs. It takes the next one.
-pub horner-turn : (op : Float → Float → Float) (z : Float) (cs : List Float) (i : ℕ) (p : Float) → i < length cs → horner op z (drop i cs) p ≡ horner op z (drop (i + 1) cs) (op (at cs i) (z ⊗ p))
+horner-turn : (op : Float → Float → Float) (z : Float) (cs : List Float) (i : ℕ) (p : Float) → i < length cs → horner op z (drop i cs) p ≡ horner op z (drop (i + 1) cs) (op (at cs i) (z ⊗ p))
 unfolding horner
 horner-turn op z cs i p h = rw (add-one, drop-cons cs i nan)
 

@@ -3,6 +3,6 @@ pub mod Horner
 pub mod Exponent
 pub mod Parts
 pub mod Finite
-pub mod Decomposed
+pub mod Theorems
 pub mod Bounded
 pub mod Examples

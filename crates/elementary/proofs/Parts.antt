@@ -1,4 +1,4 @@
--- x = m × 2^e with 1 ≤ m < 2, out of a bit pattern: its digits t at the place p, shifted up by z to 53 digits, are the digits of m, and p + 52 - z is e + 1074. Two whole numbers that
+-- x = m × 2^e with 1 ≤ m < 2, out of a bit pattern: its significand t with the exponent p, shifted up by z to 53 digits, has the digits of m, and p + 52 - z is e + 1074. Two whole numbers that
 -- agree up to zeros behind them have the same leading digit (`same`); the rest is counting places.
 use mathlib.Core.Path.{_≡_, refl, sym, ap, _∙_, subst}
 use mathlib.Core.Bool.{Bool, true, false, true≢false}
@@ -18,7 +18,7 @@ use borrow.Author.Tests.{lt-ltb, le-ltb, ltb-true, ltb-false}
 use Rattle.binary64.proofs.Pattern.{pack, above-zero, bits-value}
 use Rattle.binary64.proofs.Size.{size-is}
 use Rattle.binary64.specs.Binary64.{half, _⊗_}
-use Rattle.binary64.specs.Pattern.{digitsOf, placeOf}
+use Rattle.binary64.specs.Pattern.{significandOf, exponentOf}
 use Rattle.elementary.specs.Elementary.{mantissa, exponent, lnAt, lnReduced, sqrt2}
 
 -- ---- digits
@@ -178,8 +178,8 @@ parts (fin true n d) t p z v lo hi zp = absurd (true≢false (v .0))
 parts (fin false n d) t p z v lo hi zp =
     finite-parts n d t p z (above-zero n (up d) (2 ^ 1074) (t * 2 ^ p) (down d) (v .1) (mul-pos (digits-pos t z lo) (pow-pos p)) (down-pos d)) (v .1) lo hi zp
 
-pub pattern-parts : (b t p z : ℕ) → b < 0x7ff0_0000_0000_0000 → t ≡ digitsOf b → p ≡ placeOf b → 2 ^ 52 ≤ t * 2 ^ z → t * 2 ^ z < 2 ^ 53 → z ≤ 52 → Parts (ofBits binary64 b) (t * 2 ^ z) (p + 52 - z)
-pattern-parts b t p z h te pe lo hi zs = parts (ofBits binary64 b) t p z (subst (λ (y : ℕ). HasValue (ofBits binary64 b) false (y * 2 ^ p) (2 ^ 1074)) (sym te) (subst (λ (y : ℕ). HasValue (ofBits binary64 b) false (digitsOf b * 2 ^ y) (2 ^ 1074)) (sym pe) (bits-value b h))) lo hi (omega arith)
+pub pattern-parts : (b t p z : ℕ) → b < 0x7ff0_0000_0000_0000 → t ≡ significandOf b → p ≡ exponentOf b → 2 ^ 52 ≤ t * 2 ^ z → t * 2 ^ z < 2 ^ 53 → z ≤ 52 → Parts (ofBits binary64 b) (t * 2 ^ z) (p + 52 - z)
+pattern-parts b t p z h te pe lo hi zs = parts (ofBits binary64 b) t p z (subst (λ (y : ℕ). HasValue (ofBits binary64 b) false (y * 2 ^ p) (2 ^ 1074)) (sym te) (subst (λ (y : ℕ). HasValue (ofBits binary64 b) false (significandOf b * 2 ^ y) (2 ^ 1074)) (sym pe) (bits-value b h))) lo hi (omega arith)
 
 -- ---- the two cases of the logarithm
 abbrev pub shifted : ℕ → Float

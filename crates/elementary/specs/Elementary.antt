@@ -5,10 +5,10 @@ use Prim.Native.Nat.{ℕ, zero, suc, _+_, _-_, _*_, _^_}
 use lib.IntN.{ℤ, pos, _+ℤ_}
 use lib.Ieee as Ieee
 use lib.Ieee.{Float, nan, inf, fin, binary64, size, round, ofInt, lt, le, eq, isNan}
-use Rattle.binary64.specs.Binary64.{_⊕_, _⊖_, _⊗_, _⊘_, bits, plusZero, half, one, two, four}
+use Rattle.binary64.specs.Binary64.{_⊕_, _⊖_, _⊗_, _⊘_, bits, plusZero, half, one, two, four, π}
 use Rattle.ieee754.specs.Ieee754.{sqrt, signBit, abs, signed}
 
--- ---- constants: 2^28, 0.6931471805599453, 1.4142135623730951, C = 0.4142135623730951, π = 3.141592653589793
+-- ---- constants: 2^28, 0.6931471805599453, 1.4142135623730951, C = 0.4142135623730951
 abbrev pub twoTo28 : Float
 twoTo28 = bits 0x41b0_0000_0000_0000
 
@@ -20,9 +20,6 @@ sqrt2 = bits 0x3ff6_a09e_667f_3bcd
 
 abbrev pub C : Float
 C = bits 0x3fda_8279_99fc_ef33
-
-abbrev pub π : Float
-π = bits 0x4009_21fb_5444_2d18
 
 -- ---- Horner sums: p becomes 1/k + z × p, or 1/k − z × p, for one k after the other
 unfoldable pub horner : (Float → Float → Float) → Float → List Float → Float → Float

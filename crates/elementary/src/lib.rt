@@ -1,5 +1,6 @@
 // Document 01, "Arithmetic under the physics": the stand-ins ln, asinh and atan2, in single rounded
 // operations in the order written there.
+use ieee754::PI;
 ghost use mathlib.Core.Path.{_≡_};
 ghost use Prim.Native.Nat.{_+_, _-_, _*_, _≤_, _<_};
 ghost use lib.IntN.{subℕ};
@@ -11,8 +12,6 @@ pub const LN_2: f64 = 0.6931471805599453;
 pub const SQRT_2: f64 = 1.4142135623730951;
 
 pub const C: f64 = 0.4142135623730951;
-
-pub const PI: f64 = 3.141592653589793;
 
 // 1/k for k = 45, 43 down to 1.
 const RECIPROCALS: [f64; 23] = [
@@ -93,9 +92,9 @@ fn ln_of_bits(b: u64) -> f64
     requires { ⌜ (0 < b) × (b < 0x7ff0_0000_0000_0000) ⌝ }
     ensures { λ r. ⌜ r ≡ Spec.lnReduced (Spec.mantissa (ofBits binary64 b)) (Spec.exponent (ofBits binary64 b)) ⌝ }
 {
-    let t = binary64::digits(b);
+    let t = binary64::significand(b);
     let z = binary64::shift(t);
-    let e = binary64::place(b) + 52 - z;
+    let e = binary64::exponent(b) + 52 - z;
     let m = f64::from_bits((t << z) + 0x3fe0_0000_0000_0000);
     if m > SQRT_2 {
         return ln_at(m * 0.5, float_exponent(e + 1));

@@ -1,23 +1,15 @@
 -- One lane of `atan2s` against the definition: NaN, or of two sizes that are neither zero nor infinite, where the definition's special cases do not hold and the comparison with zero is the sign bit.
 use mathlib.Core.Path.{_≡_, refl, sym, ap, _∙_, subst}
-use mathlib.Core.Bool.{Bool, true, false, cond, _&&_, _||_, true≢false}
-use mathlib.Core.Logic.{_⊎_, inl, inr}
-use mathlib.Core.List.{List}
-use Prim.Native.Nat.{ℕ, zero, suc, _<_}
-use native.Mathlib.Nat.{not-suc-le-zero, le-of-suc-le-suc, eq-or-lt-of-le}
+use mathlib.Core.Bool.{Bool, true, false, cond, _&&_}
 use lib.Dec.{T}
 use lib.Ieee.{Float, nan, neg, ofBits, lt, le, isNan}
 use lib.Ieee.Positive.{positive}
-use Rattle.binary64.specs.Binary64.{at, _⊖_, _⊕_, _⊘_, plusZero, one, four}
+use Rattle.binary64.specs.Binary64.{_⊖_, _⊕_, _⊘_, plusZero, one, four, π}
 use Rattle.ieee754.specs.Ieee754.{signed}
-use Rattle.elementary.specs.Elementary.{π, ratio, atanAt, supplement, atan2}
+use Rattle.elementary.specs.Elementary.{ratio, atanAt, supplement, atan2}
 use Rattle.elementary.specs.Elementary as Spec
-use Rattle.elementary_lanes.specs.Lanes.{minPositive, twoTo1023, magnitude, firstQuadrant, angle, anyNan}
+use Rattle.elementary_lanes.specs.Lanes.{minPositive, twoTo1023, magnitude, firstQuadrant, angle}
 use Rattle.elementary_lanes.proofs.Normal.{both, within, ordinary, Signed, has-sign, same}
-
-neither : (a b : Bool) → a || b ≡ false → (a ≡ false) × (b ≡ false)
-neither true b e = absurd (true≢false e)
-neither false b e = (refl, e)
 
 pub one-quotient : (steep : Bool) (a b : Float) → cond steep b a ⊘ cond steep a b ≡ cond steep (b ⊘ a) (a ⊘ b)
 one-quotient true a b = refl
@@ -72,12 +64,3 @@ angle-or-atan2 y x = go (le minPositive a && le a twoTo1023 && le minPositive b 
 
 pub angle-is : (y x : Float) → isNan (angle y x) ≡ false → angle y x ≡ atan2 y x
 angle-is y x n = subst (λ (b : Bool). cond b (atan2 y x) (angle y x) ≡ atan2 y x) n (angle-or-atan2 y x)
-
-pub none-nan : (n : ℕ) (r : List Float) → anyNan n r ≡ false → (i : ℕ) → i < n → isNan (at r i) ≡ false
-unfolding anyNan
-none-nan zero r e i h = absurd (not-suc-le-zero h)
-none-nan (suc n) r e i h = let f = neither (anyNan n r) (isNan (at r n)) e in go (f .1) (none-nan n r (f .0) i) (eq-or-lt-of-le (le-of-suc-le-suc h))
-  where
-    go : isNan (at r n) ≡ false → (i < n → isNan (at r i) ≡ false) → (i ≡ n) ⊎ (i < n) → isNan (at r i) ≡ false
-    go l f (inl q) = ap (λ (k : ℕ). isNan (at r k)) q ∙ l
-    go l f (inr k) = f k

@@ -1,4 +1,3 @@
 -- What the proofs share.
-pub mod Each
 pub mod Normal
 pub mod Arctangent

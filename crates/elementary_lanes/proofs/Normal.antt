@@ -15,12 +15,12 @@ use lib.Ieee.Exact.{HasValue}
 use lib.Ieee.Positive.{positive, between, le→cross, values-of-le}
 use borrow.Author.Tests.{le-ltb, ne-eqb}
 use Rattle.binary64.specs.Binary64.{_⊕_, _⊖_, _⊗_, _⊘_, plusZero, half, one, two}
-use Rattle.binary64.specs.Pattern.{digitsOf, placeOf}
-use Rattle.binary64.proofs.Pattern.{digits-low, digits-high, bits-value}
+use Rattle.binary64.specs.Pattern.{significandOf, exponentOf}
+use Rattle.binary64.proofs.Pattern.{significand-low, significand-high, bits-value}
 use Rattle.ieee754.specs.Ieee754.{sqrt, signBit, abs, signed}
 use Rattle.elementary.specs.Elementary.{C, ln2, twoTo28, twiceArtanh, mantissa, exponent, lnAt, lnReduced, ln, asinhOfMagnitude, asinh}
 use Rattle.elementary.specs.Elementary as Spec
-use Rattle.elementary_lanes.specs.Lanes.{minPositive, twoTo31, magnitude, radicand, excess, fromOne, significand, lnFields, ln1p, lane}
+use Rattle.elementary_lanes.specs.Lanes.{minPositive, twoTo31, magnitude, radicand, excess, fromOne, mantissaOfBits, lnFields, ln1p, lane}
 use Rattle.elementary.proofs.Finite.{under-infinity}
 use Rattle.elementary.proofs.Parts.{Parts, pattern-parts, same-difference, next}
 
@@ -93,20 +93,20 @@ not-above (fin false m e) (fin true n d) p q h = absurd q
 not-above (fin false m e) (fin false n d) p q h = le-ltb (n * up d * down e) (m * up e * down d) (le→cross (fin false m e) (fin false n d) p q h)
 
 -- ---- the logarithm of a number from 1 on
-normal-parts : (b : ℕ) → 2 ^ 52 ≤ b → b < 0x7ff0_0000_0000_0000 → Parts (ofBits binary64 b) (digitsOf b * 2 ^ 0) (placeOf b + 52 - 0)
+normal-parts : (b : ℕ) → 2 ^ 52 ≤ b → b < 0x7ff0_0000_0000_0000 → Parts (ofBits binary64 b) (significandOf b * 2 ^ 0) (exponentOf b + 52 - 0)
 normal-parts b lo hi =
-    let e = digits-high b lo in
-    let d : 2 ^ 52 ≤ digitsOf b * 2 ^ 0 = omega (arith, e) in
-    let u : digitsOf b * 2 ^ 0 < 2 ^ 53 = omega (arith, e) in
-    pattern-parts b (digitsOf b) (placeOf b) 0 hi refl refl d u (omega arith)
+    let e = significand-high b lo in
+    let d : 2 ^ 52 ≤ significandOf b * 2 ^ 0 = omega (arith, e) in
+    let u : significandOf b * 2 ^ 0 < 2 ^ 53 = omega (arith, e) in
+    pattern-parts b (significandOf b) (exponentOf b) 0 hi refl refl d u (omega arith)
 
-normal-fields : (b : ℕ) → 2 ^ 52 ≤ b → b < 0x7ff0_0000_0000_0000 → lnReduced (mantissa (ofBits binary64 b)) (exponent (ofBits binary64 b)) ≡ lnReduced (significand b) (subℕ (b / 2 ^ 52) 1023)
-unfolding significand
+normal-fields : (b : ℕ) → 2 ^ 52 ≤ b → b < 0x7ff0_0000_0000_0000 → lnReduced (mantissa (ofBits binary64 b)) (exponent (ofBits binary64 b)) ≡ lnReduced (mantissaOfBits b) (subℕ (b / 2 ^ 52) 1023)
+unfolding mantissaOfBits
 normal-fields b lo hi =
     let p = normal-parts b lo hi in
-    let e = digits-high b lo in
-    let m : digitsOf b * 2 ^ 0 % 2 ^ 64 + 0x3fe0_0000_0000_0000 ≡ b % 2 ^ 52 + 0x3ff0_0000_0000_0000 = omega (arith, e) in
-    let x : subℕ (placeOf b + 52 - 0) 1074 ≡ subℕ (b / 2 ^ 52) 1023 = same-difference (placeOf b + 52 - 0) 1074 (b / 2 ^ 52) 1023 (omega arith) in
+    let e = significand-high b lo in
+    let m : significandOf b * 2 ^ 0 % 2 ^ 64 + 0x3fe0_0000_0000_0000 ≡ b % 2 ^ 52 + 0x3ff0_0000_0000_0000 = omega (arith, e) in
+    let x : subℕ (exponentOf b + 52 - 0) 1074 ≡ subℕ (b / 2 ^ 52) 1023 = same-difference (exponentOf b + 52 - 0) 1074 (b / 2 ^ 52) 1023 (omega arith) in
     (λ i. lnReduced ((p .mantissa-is ∙ ap (ofBits binary64) m) i) ((p .exponent-is ∙ x) i))
 
 one-value : HasValue one false 1 1
@@ -132,10 +132,10 @@ from-normal y held p u h =
 
     value : b < 2 ^ 52 → HasValue y false (b * 2 ^ 0) (2 ^ 1074)
     value g =
-        let z : placeOf b ≡ 0 = omega arith in
+        let z : exponentOf b ≡ 0 = omega arith in
         subst (λ (v : Float). HasValue v false (b * 2 ^ 0) (2 ^ 1074)) (ofBits-toBits binary64 y held)
-        (subst (λ (k : ℕ). HasValue (ofBits binary64 b) false (k * 2 ^ 0) (2 ^ 1074)) (sym (digits-low b g))
-        (subst (λ (k : ℕ). HasValue (ofBits binary64 b) false (digitsOf b * 2 ^ k) (2 ^ 1074)) z (bits-value b u)))
+        (subst (λ (k : ℕ). HasValue (ofBits binary64 b) false (k * 2 ^ 0) (2 ^ 1074)) (sym (significand-low b g))
+        (subst (λ (k : ℕ). HasValue (ofBits binary64 b) false (significandOf b * 2 ^ k) (2 ^ 1074)) z (bits-value b u)))
 
 ln-normal : (y : Float) → T (fits binary64 y) → T (positive y) → le one y ≡ true → ln y ≡ lnFields y
 unfolding ln lnFields fromOne

@@ -1,12 +1,12 @@
 -- Inner form: what one lane of `asinhs` and of `atan2s` computes: asinh with the significand and the exponent read off a pattern, atan2 without its special cases, and NaN where they do not hold. Definitions only.
-use mathlib.Core.Bool.{Bool, false, cond, _&&_, _||_}
+use mathlib.Core.Bool.{Bool, cond, _&&_}
 use mathlib.Core.List.{List}
-use mathlib.Core.Path.{_≡_}
-use Prim.Native.Nat.{ℕ, zero, suc, _+_, _/_, _%_, _^_, _<_}
+use Prim.Native.Nat.{ℕ, _+_, _/_, _%_, _^_}
 use lib.IntN.{subℕ}
 use lib.Ieee.{Float, nan, binary64, toBits, neg, lt, le, isNan}
-use Rattle.binary64.specs.Binary64.{_⊕_, _⊖_, _⊗_, _⊘_, bits, at, plusZero, one, two}
-use Rattle.elementary.specs.Elementary.{twoTo28, C, π, twiceArtanh, lnReduced, atan, supplement}
+use Rattle.binary64.specs.Binary64.{_⊕_, _⊖_, _⊗_, _⊘_, bits, at, plusZero, one, two, π}
+use Rattle.lists.specs.Counting.{someBelow}
+use Rattle.elementary.specs.Elementary.{twoTo28, C, twiceArtanh, lnReduced, atan, supplement}
 
 -- 2^−1022, 2^31 and 2^1023
 abbrev pub minPositive : Float
@@ -17,10 +17,6 @@ twoTo31 = bits 0x41e0_0000_0000_0000
 
 abbrev pub twoTo1023 : Float
 twoTo1023 = bits 0x7fe0_0000_0000_0000
-
--- the first n elements of r are g 0, g 1, …
-abbrev pub Each : ℕ → (ℕ → Float) → List Float → Type 0
-Each n g r = (i : ℕ) → i < n → at r i ≡ g i
 
 -- |x|, for an x that is neither zero nor NaN
 unfoldable pub magnitude : Float → Float
@@ -37,12 +33,12 @@ unfoldable pub fromOne : Float → Float
 fromOne y = cond (le one y) y one
 
 -- m of the pattern of a normal number; its e is the exponent field less 1023
-unfoldable pub significand : ℕ → Float
-significand b = bits (b % 2 ^ 52 + 0x3ff0_0000_0000_0000)
+unfoldable pub mantissaOfBits : ℕ → Float
+mantissaOfBits b = bits (b % 2 ^ 52 + 0x3ff0_0000_0000_0000)
 
 -- ln y by its pattern, for 1 ≤ y ≤ 2^31
 unfoldable pub lnFields : Float → Float
-lnFields y = let b = toBits binary64 (fromOne y) in lnReduced (significand b) (subℕ (b / 2 ^ 52) 1023)
+lnFields y = let b = toBits binary64 (fromOne y) in lnReduced (mantissaOfBits b) (subℕ (b / 2 ^ 52) 1023)
 
 -- ln(1 + w), or NaN
 unfoldable pub ln1p : Float → Float
@@ -64,6 +60,5 @@ angle y x =
     cond (le minPositive a && le a twoTo1023 && le minPositive b && le b twoTo1023) (cond (lt y plusZero) (neg r) r) nan
 
 -- one of the first n is NaN
-unfoldable pub anyNan : ℕ → List Float → Bool
-anyNan zero r = false
-anyNan (suc n) r = anyNan n r || isNan (at r n)
+abbrev pub anyNan : ℕ → List Float → Bool
+anyNan n r = someBelow (λ (i : ℕ). isNan (at r i)) n

@@ -8,18 +8,19 @@ ghost use lib.IntN.{subℕ};
 ghost use lib.Ieee.{binary64, ofInt, isNan, lt};
 ghost use Rattle.binary64.specs.Binary64.{at, _⊘_};
 ghost use Rattle.ieee754.specs.Ieee754.{sqrt};
-ghost use Rattle.square_root.specs.Estimate.{guess};
+ghost use Rattle.lists.specs.Filling.{Each};
+ghost use Rattle.square_root.specs.Estimate.{rootEstimate};
 ghost use Rattle.elementary.specs.Elementary as Spec;
 ghost use Rattle.elementary_lanes.specs.Lanes as Lanes;
 use elementary::C;
 use elementary::LN_2;
-use elementary::PI;
 use elementary::SQRT_2;
 use elementary::asinh;
 use elementary::atan_at;
 use elementary::atan2;
 use elementary::supplement;
 use elementary::twice_artanh;
+use ieee754::PI;
 use ieee754::select;
 
 // The smallest normal number.
@@ -63,14 +64,14 @@ fn from_one(y: f64) -> f64
 }
 
 // m of a normal number's pattern.
-fn significand(b: u64) -> f64
-    ensures { λ r. ⌜ r ≡ Lanes.significand b ⌝ }
+fn mantissa_of_bits(b: u64) -> f64
+    ensures { λ r. ⌜ r ≡ Lanes.mantissaOfBits b ⌝ }
 {
     f64::from_bits(b % 0x10_0000_0000_0000 + 0x3ff0_0000_0000_0000)
 }
 
 // e of a normal number's exponent field, one more where m is halved.
-fn exponent(field: u64, halved: bool) -> f64
+fn float_exponent(field: u64, halved: bool) -> f64
     requires { ⌜ field ≤ 4095 ⌝ }
     ensures { λ r. ⌜ r ≡ ofInt binary64 (subℕ field (cond halved 1022 1023)) ⌝ }
 {
@@ -83,10 +84,10 @@ fn ln_1p(w: f64) -> f64
 {
     let y = 1.0 + w;
     let b = f64::to_bits(from_one(y));
-    let m0 = significand(b);
+    let m0 = mantissa_of_bits(b);
     let halved = m0 > SQRT_2;
     let m = select(halved, m0 * 0.5, m0);
-    let e = exponent(b / 0x10_0000_0000_0000, halved);
+    let e = float_exponent(b / 0x10_0000_0000_0000, halved);
     let small = w <= C;
     let n = select(small, w, m - 1.0);
     let d = select(small, 2.0 + w, m + 1.0);
@@ -110,7 +111,7 @@ fn chosen(x: f64, r: f64) -> f64
 }
 
 fn radicands(x: [f64; 14]) -> [f64; 14]
-    ensures { λ r. ⌜ Lanes.Each 14 (λ i. Lanes.radicand (at x i)) r ⌝ }
+    ensures { λ r. ⌜ Each 14 (λ i. Lanes.radicand (at x i)) r ⌝ }
 {
     let mut out = [0.0; 14];
     for i in 0..14usize {
@@ -119,19 +120,19 @@ fn radicands(x: [f64; 14]) -> [f64; 14]
     out
 }
 
-fn guesses(s: [f64; 14]) -> [f64; 14]
-    ensures { λ r. ⌜ Lanes.Each 14 (λ i. guess (at s i)) r ⌝ }
+fn estimates(s: [f64; 14]) -> [f64; 14]
+    ensures { λ r. ⌜ Each 14 (λ i. rootEstimate (at s i)) r ⌝ }
 {
     let mut out = [0.0; 14];
     for i in 0..14usize {
-        out[i] = square_root::guess(s[i]);
+        out[i] = square_root::root_estimate(s[i]);
     }
     out
 }
 
-// The roots, whatever the guesses are.
+// The roots, whatever the estimates are.
 fn roots(s: [f64; 14], g: [f64; 14]) -> [f64; 14]
-    ensures { λ r. ⌜ Lanes.Each 14 (λ i. sqrt (at s i)) r ⌝ }
+    ensures { λ r. ⌜ Each 14 (λ i. sqrt (at s i)) r ⌝ }
 {
     let mut out = [0.0; 14];
     for i in 0..14usize {
@@ -141,7 +142,7 @@ fn roots(s: [f64; 14], g: [f64; 14]) -> [f64; 14]
 }
 
 fn excesses(x: [f64; 14], q: [f64; 14]) -> [f64; 14]
-    ensures { λ r. ⌜ Lanes.Each 14 (λ i. Lanes.excess (at x i) (at q i)) r ⌝ }
+    ensures { λ r. ⌜ Each 14 (λ i. Lanes.excess (at x i) (at q i)) r ⌝ }
 {
     let mut out = [0.0; 14];
     for i in 0..14usize {
@@ -151,7 +152,7 @@ fn excesses(x: [f64; 14], q: [f64; 14]) -> [f64; 14]
 }
 
 fn lanes(x: [f64; 14], w: [f64; 14]) -> [f64; 14]
-    ensures { λ r. ⌜ Lanes.Each 14 (λ i. Lanes.lane (at x i) (at w i)) r ⌝ }
+    ensures { λ r. ⌜ Each 14 (λ i. Lanes.lane (at x i) (at w i)) r ⌝ }
 {
     let mut out = [0.0; 14];
     for i in 0..14usize {
@@ -161,7 +162,7 @@ fn lanes(x: [f64; 14], w: [f64; 14]) -> [f64; 14]
 }
 
 fn choices(x: [f64; 14], r: [f64; 14]) -> [f64; 14]
-    ensures { λ y. ⌜ Lanes.Each 14 (λ i. cond (isNan (at r i)) (Spec.asinh (at x i)) (at r i)) y ⌝ }
+    ensures { λ y. ⌜ Each 14 (λ i. cond (isNan (at r i)) (Spec.asinh (at x i)) (at r i)) y ⌝ }
 {
     let mut out = [0.0; 14];
     for i in 0..14usize {
@@ -174,7 +175,7 @@ pub fn asinhs(x: [f64; 14]) -> [f64; 14]
     ensures { λ r. ⌜ ((i : ℕ) → i < 14 → at r i ≡ Spec.asinh (at x i)) ⌝ }
 {
     let s = radicands(x);
-    let q = roots(s, guesses(s));
+    let q = roots(s, estimates(s));
     choices(x, lanes(x, excesses(x, q)))
 }
 
@@ -217,7 +218,7 @@ fn angle(y: f64, x: f64) -> f64
 
 // Seven numbers and one more: the compiler lays out lanes in pairs.
 fn padded(x: [f64; 7]) -> [f64; 8]
-    ensures { λ r. ⌜ Lanes.Each 7 (λ i. at x i) r ⌝ }
+    ensures { λ r. ⌜ Each 7 (λ i. at x i) r ⌝ }
 {
     let mut out = [1.0; 8];
     for i in 0..7usize {
@@ -227,7 +228,7 @@ fn padded(x: [f64; 7]) -> [f64; 8]
 }
 
 fn angles(y: [f64; 8], x: [f64; 8]) -> [f64; 8]
-    ensures { λ r. ⌜ Lanes.Each 8 (λ i. Lanes.angle (at y i) (at x i)) r ⌝ }
+    ensures { λ r. ⌜ Each 8 (λ i. Lanes.angle (at y i) (at x i)) r ⌝ }
 {
     let mut out = [0.0; 8];
     for i in 0..8usize {
@@ -237,7 +238,7 @@ fn angles(y: [f64; 8], x: [f64; 8]) -> [f64; 8]
 }
 
 fn front(r: [f64; 8]) -> [f64; 7]
-    ensures { λ y. ⌜ Lanes.Each 7 (λ i. at r i) y ⌝ }
+    ensures { λ y. ⌜ Each 7 (λ i. at r i) y ⌝ }
 {
     let mut out = [0.0; 7];
     for i in 0..7usize {
@@ -258,7 +259,7 @@ fn has_nan(r: [f64; 8]) -> bool
 }
 
 fn one_by_one(y: [f64; 7], x: [f64; 7]) -> [f64; 7]
-    ensures { λ r. ⌜ Lanes.Each 7 (λ i. Spec.atan2 (at y i) (at x i)) r ⌝ }
+    ensures { λ r. ⌜ Each 7 (λ i. Spec.atan2 (at y i) (at x i)) r ⌝ }
 {
     let mut out = [0.0; 7];
     for i in 0..7usize {

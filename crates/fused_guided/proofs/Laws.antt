@@ -1,6 +1,7 @@
 pub mod Tests
+pub mod Terms
 pub mod Wide
 pub mod Signed
 pub mod Guided
-pub mod Rest
+pub mod Residual
 pub mod Far

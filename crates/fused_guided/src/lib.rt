@@ -9,11 +9,29 @@ ghost use lib.Ieee.Nearest.{closest};
 ghost use Rattle.binary64.specs.Operations.{fma};
 ghost use Rattle.fused_integer.specs.Jam.{Jam};
 ghost use Rattle.fused_guided.specs.Guided as Guided;
+use binary64::LEADING_BIT;
+use binary64::QUANTUM_BIAS;
+use binary64::SIGN_BIT;
+use binary64::TOP_FIELD;
 use fused_integer::Wide;
 use fused_integer::opposite;
 use fused_integer::product;
 use fused_integer::signed;
 use fused_integer::sticky;
+
+// A field from here on and below there is far from those of the smallest and the largest values.
+const CENTRAL_FROM: u64 = 768;
+
+const CENTRAL_TO: u64 = 1280;
+
+// A value with the field ex + ey - QUANTUM_BIAS has its last digit at the place of the last of a product of such
+// fields; with these biases 64 places above it, and 55, where jam_product cuts.
+const WORD_BIAS: u64 = 1011;
+
+const CUT_BIAS: u64 = 1020;
+
+// 2 ^ 51: a residual is what a significand has beyond it.
+const HALF_FIELD: u64 = 0x8_0000_0000_0000;
 
 // The bits of a result, or of a significand, where `ok`; where not, `sig` is not read.
 struct Attempt {
@@ -29,16 +47,16 @@ pub fn field(b: u64) -> u64
 }
 
 // The 53 digits of a pattern whose field is not 0.
-pub fn digits(b: u64) -> u64
-    ensures { λ r. ⌜ r ≡ Guided.digits b ⌝ }
+pub fn normal_significand(b: u64) -> u64
+    ensures { λ r. ⌜ r ≡ Guided.normalSignificand b ⌝ }
 {
-    0x10_0000_0000_0000 + b % 0x10_0000_0000_0000
+    LEADING_BIT + b % LEADING_BIT
 }
 
 pub fn minus_sign(b: u64) -> bool
     ensures { λ r. ⌜ r ≡ leb (2 ^ 63) b ⌝ }
 {
-    b >= 0x8000_0000_0000_0000
+    b >= SIGN_BIT
 }
 
 // Each bit turned over where c.
@@ -119,13 +137,13 @@ fn refused() -> Attempt
 }
 
 // ±u * v ± w * 2 ^ k, shifted up by s and rounded to a significand, exactly if the shifted sum has its leading
-// digit at place 116.
+// digit at its place, 116: 53 digits, and 64 to be rounded off.
 fn guided_sum(cp: bool, u: u64, v: u64, cz: bool, w: u64, k: u64, s: u64) -> Attempt
     requires { ⌜ (u < 2 ^ 53) × (v < 2 ^ 53) ⌝ }
     requires { ⌜ (w < 2 ^ 53) × (k < 64) ⌝ }
     requires { ⌜ (1 ≤ s) × (s < 63) ⌝ }
     ensures { λ r. ⌜ (r .ok ≡ Guided.leads (Guided.signedSum cp (u * v) cz (w * 2 ^ k)) s)
-        × (r .sig ≡ cond (r .ok) (Guided.significand (Guided.signedSum cp (u * v) cz (w * 2 ^ k)) s) 0) ⌝ }
+        × (r .sig ≡ cond (r .ok) (Guided.roundedSignificand (Guided.signedSum cp (u * v) cz (w * 2 ^ k)) s) 0) ⌝ }
 {
     let p = product(u, v);
     let z = shift_word(w, k);
@@ -148,7 +166,7 @@ fn guided_sum(cp: bool, u: u64, v: u64, cz: bool, w: u64, k: u64, s: u64) -> Att
 pub fn central(e: u64) -> bool
     ensures { λ r. ⌜ r ≡ Guided.central e ⌝ }
 {
-    (768 <= e) & (e < 1280)
+    (CENTRAL_FROM <= e) & (e < CENTRAL_TO)
 }
 
 fn usable(ex: u64, ey: u64, k: u64, s: u64) -> bool
@@ -166,8 +184,8 @@ fn guided_bits(bx: u64, by: u64, bz: u64, bt: u64) -> Attempt
     let ey = field(by);
     let ez = field(bz);
     let et = field(bt);
-    let k = std::num::wrapping_sub_u64(ez + 1075, ex + ey);
-    let s = std::num::wrapping_sub_u64(ex + ey, et + 1011);
+    let k = std::num::wrapping_sub_u64(ez + QUANTUM_BIAS, ex + ey);
+    let s = std::num::wrapping_sub_u64(ex + ey, et + WORD_BIAS);
     if !usable(ex, ey, k, s) {
         return refused();
     }
@@ -175,29 +193,29 @@ fn guided_bits(bx: u64, by: u64, bz: u64, bt: u64) -> Attempt
     let np = opposite(minus_sign(bx), minus_sign(by));
     let g = guided_sum(
         opposite(np, nt),
-        digits(bx),
-        digits(by),
+        normal_significand(bx),
+        normal_significand(by),
         opposite(minus_sign(bz), nt),
-        digits(bz),
+        normal_significand(bz),
         k,
         s,
     );
     Attempt {
         ok: g.ok,
-        sig: signed(nt, (et - 1) * 0x10_0000_0000_0000 + g.sig),
+        sig: signed(nt, (et - 1) * LEADING_BIT + g.sig),
     }
 }
 
 // ---- z far above the product
 
 // (f - 2 ^ 51) * 2 ^ (e - 1) of the smallest values, or that with the other sign where `negative`.
-pub fn rest_float(negative: bool, f: u64, e: u64) -> f64
+pub fn residual_float(negative: bool, f: u64, e: u64) -> f64
     requires { ⌜ f < 2 ^ 52 ⌝ }
-    requires { ⌜ (1 ≤ e) × (e < 2000) ⌝ }
-    ensures { λ r. ⌜ Guided.Rest negative r f e ⌝ }
+    requires { ⌜ (1 ≤ e) × (e < Guided.residualTop) ⌝ }
+    ensures { λ r. ⌜ Guided.Residual negative r f e ⌝ }
 {
-    let top = signed(negative, e * 0x10_0000_0000_0000);
-    f64::from_bits(top + f) - f64::from_bits(top + 0x8_0000_0000_0000)
+    let top = signed(negative, e * LEADING_BIT);
+    f64::from_bits(top + f) - f64::from_bits(top + HALF_FIELD)
 }
 
 // z is so far above x * y that the product's 55 lowest digits are at least 9 places below z's last digit.
@@ -205,7 +223,7 @@ fn far_above(ex: u64, ey: u64, ez: u64) -> bool
     requires { ⌜ (ex < 2048) × ((ey < 2048) × (ez < 2048)) ⌝ }
     ensures { λ r. ⌜ r ≡ Guided.farAbove ex ey ez ⌝ }
 {
-    (central(ex) & central(ey)) & ((ez < 2047) & (ex + ey <= ez + 1011))
+    (central(ex) & central(ey)) & ((ez < TOP_FIELD) & (ex + ey <= ez + WORD_BIAS))
 }
 
 // The digits of a product of two significands above its 55 lowest, with a sticky bit for those.
@@ -232,10 +250,10 @@ fn unguided(x: f64, y: f64, z: f64) -> f64
     if !far_above(ex, ey, ez) {
         return fused_integer::fused_numbers(x, y, z);
     }
-    let p = product(digits(bx), digits(by));
+    let p = product(normal_significand(bx), normal_significand(by));
     let f = jam_product(p.hi, p.lo);
     let n = opposite(minus_sign(bx), minus_sign(by));
-    z + rest_float(n, 0x8_0000_0000_0000 + f, ex + ey - 1020)
+    z + residual_float(n, HALF_FIELD + f, ex + ey - CUT_BIAS)
 }
 
 // fma of numbers with the hardware's t = x * y + z as the guide: it says where the exact sum's leading digit should

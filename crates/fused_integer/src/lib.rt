@@ -7,9 +7,20 @@ ghost use lib.Dec.{T, leb};
 ghost use lib.Ieee.{binary64, toBits, sum, isNan, unlike};
 ghost use lib.Ieee.Nearest.{closest};
 ghost use Rattle.binary64.specs.Operations.{fma};
+ghost use Rattle.binary64.specs.Format.{trailing, lowest, magnitudeDigits, largestField, infinityBits};
+ghost use Rattle.binary64.specs.Nearest.{den};
 ghost use Rattle.fused_integer.specs.Jam.{Jam};
 ghost use Rattle.fused_integer.specs.Rounds.{rounds};
-ghost use Rattle.fused_integer.specs.Parts.{mag, Normal, Placed, Narrow, Lifted, Finish, Ordered, Combined};
+ghost use Rattle.binary64.specs.Pattern.{mag};
+ghost use Rattle.fused_integer.specs.Parts.{Normal, Placed, Narrow, Lifted, Finish, Ordered, Combined};
+use binary64::INFINITY_BITS;
+use binary64::SIGN_BIT;
+
+// The largest exponent's field of a finite value.
+const LARGEST_FIELD: u64 = 2046;
+
+// The exponent, in units of 2 ^ -2148, from which on a significand stands for a normal value: 1074 + 53.
+const NORMAL_FROM: u64 = 1127;
 
 // ---- words
 
@@ -86,8 +97,8 @@ fn jam(hi: u64, lo: u64, d: u64) -> Wide
 
 // m / 2 ^ 11 to the nearest whole number, a tie to the even one, on top of the exponent's field k.
 fn rounded(m: u64, k: u64) -> u64
-    requires { ⌜ k < 2046 ⌝ }
-    ensures { λ r. ⌜ r ≡ k * 2 ^ 52 + closest m 2048 ⌝ }
+    requires { ⌜ k < largestField ⌝ }
+    ensures { λ r. ⌜ r ≡ k * 2 ^ trailing + closest m 2048 ⌝ }
 {
     let q = m >> 11;
     let up = (m % 2048 + 1023 + q % 2) / 2048;
@@ -100,15 +111,15 @@ fn pack(sig: u64, exp: u64) -> u64
     requires { ⌜ 2 ^ 63 ≤ sig ⌝ }
     ensures { λ r. ⌜ r ≡ rounds sig exp ⌝ }
 {
-    if exp >= 1127 {
-        let k = exp - 1127;
-        if k < 2046 {
+    if exp >= NORMAL_FROM {
+        let k = exp - NORMAL_FROM;
+        if k < LARGEST_FIELD {
             rounded(sig, k)
         } else {
-            0x7ff0_0000_0000_0000
+            INFINITY_BITS
         }
     } else {
-        let t = 1127 - exp;
+        let t = NORMAL_FROM - exp;
         if t < 64 {
             rounded(sticky(sig >> t, low_bits(sig, t)), 0)
         } else {
@@ -129,7 +140,7 @@ pub fn product(u: u64, v: u64) -> Wide
 // The significand of a pattern without its sign, shifted up by its leading zero bits.
 fn unpack(a: u64) -> Part
     requires { ⌜ 0 < a ⌝ }
-    requires { ⌜ a < 2047 * 2 ^ 52 ⌝ }
+    requires { ⌜ a < infinityBits ⌝ }
     ensures { λ r. ⌜ Normal (r .sig) (r .exp) (mag a) ⌝ }
 {
     let e = a >> 52;
@@ -202,8 +213,8 @@ fn sub(ah: u64, al: u64, bh: u64, bl: u64) -> Wide
 // Two words as one with its leading bit at place 63, its last bit set where anything was cut off.
 fn narrow(hi: u64, lo: u64, g: u64) -> Part
     requires { ⌜ 0 < hi * 2 ^ 64 + lo ⌝ }
-    requires { ⌜ 1075 ≤ g ⌝ }
-    requires { ⌜ g ≤ 4196 ⌝ }
+    requires { ⌜ lowest < g ⌝ }
+    requires { ⌜ g ≤ 2 * magnitudeDigits ⌝ }
     ensures { λ r. ⌜ Narrow (hi * 2 ^ 64 + lo) g (r .sig) (r .exp) ⌝ }
 {
     if hi == 0 {
@@ -224,8 +235,8 @@ fn narrow(hi: u64, lo: u64, g: u64) -> Part
 
 // The bits of the rounded value of two words, 0 for 0.
 fn finish(hi: u64, lo: u64, g: u64) -> u64
-    requires { ⌜ 1075 ≤ g ⌝ }
-    requires { ⌜ g ≤ 4196 ⌝ }
+    requires { ⌜ lowest < g ⌝ }
+    requires { ⌜ g ≤ 2 * magnitudeDigits ⌝ }
     ensures { λ r. ⌜ Finish (hi * 2 ^ 64 + lo) g r ⌝ }
 {
     if (hi | lo) == 0 {
@@ -238,8 +249,8 @@ fn finish(hi: u64, lo: u64, g: u64) -> u64
 
 // The exact product of two magnitudes, in units of 2 ^ -2148.
 fn multiply(ax: u64, ay: u64) -> Scaled
-    requires { ⌜ (0 < ax) × (ax < 2047 * 2 ^ 52) ⌝ }
-    requires { ⌜ (0 < ay) × (ay < 2047 * 2 ^ 52) ⌝ }
+    requires { ⌜ (0 < ax) × (ax < infinityBits) ⌝ }
+    requires { ⌜ (0 < ay) × (ay < infinityBits) ⌝ }
     ensures { λ r. ⌜ Placed (r .hi * 2 ^ 64 + r .lo) (r .exp) (mag ax * mag ay) ⌝ }
 {
     let x = unpack(ax);
@@ -249,15 +260,15 @@ fn multiply(ax: u64, ay: u64) -> Scaled
 }
 
 // A magnitude in the same units.
-fn place(az: u64) -> Scaled
-    requires { ⌜ (0 < az) × (az < 2047 * 2 ^ 52) ⌝ }
-    ensures { λ r. ⌜ (Placed (r .hi * 2 ^ 64 + r .lo) (r .exp) (mag az * 2 ^ 1074)) × (1075 ≤ r .exp) ⌝ }
+fn scale(az: u64) -> Scaled
+    requires { ⌜ (0 < az) × (az < infinityBits) ⌝ }
+    ensures { λ r. ⌜ (Placed (r .hi * 2 ^ 64 + r .lo) (r .exp) (mag az * 2 ^ lowest)) × (lowest < r .exp) ⌝ }
 {
     let z = unpack(az);
     Scaled {
         hi: z.sig >> 1,
         lo: 0,
-        exp: z.exp + 1074,
+        exp: z.exp + binary64::LOWEST,
     }
 }
 
@@ -293,14 +304,10 @@ fn larger(ah: u64, al: u64, g: u64, bh: u64, bl: u64, h: u64) -> bool
 }
 
 pub fn signed(negative: bool, m: u64) -> u64
-    requires { ⌜ m ≤ 2047 * 2 ^ 52 ⌝ }
+    requires { ⌜ m ≤ infinityBits ⌝ }
     ensures { λ r. ⌜ r ≡ cond negative (2 ^ 63) 0 + m ⌝ }
 {
-    if negative {
-        0x8000_0000_0000_0000 + m
-    } else {
-        m
-    }
+    if negative { SIGN_BIT + m } else { m }
 }
 
 fn alike(a: bool, b: bool) -> bool
@@ -311,13 +318,13 @@ fn alike(a: bool, b: bool) -> bool
 
 // The bits of the sum of a product and a number, neither 0.
 fn finite(np: bool, ax: u64, ay: u64, nz: bool, az: u64) -> u64
-    requires { ⌜ (0 < ax) × (ax < 2047 * 2 ^ 52) ⌝ }
-    requires { ⌜ (0 < ay) × (ay < 2047 * 2 ^ 52) ⌝ }
-    requires { ⌜ (0 < az) × (az < 2047 * 2 ^ 52) ⌝ }
-    ensures { λ r. ⌜ r ≡ toBits binary64 (sum binary64 np (mag ax * mag ay) nz (mag az * 2 ^ 1074) (2 ^ (1074 + 1074))) ⌝ }
+    requires { ⌜ (0 < ax) × (ax < infinityBits) ⌝ }
+    requires { ⌜ (0 < ay) × (ay < infinityBits) ⌝ }
+    requires { ⌜ (0 < az) × (az < infinityBits) ⌝ }
+    ensures { λ r. ⌜ r ≡ toBits binary64 (sum binary64 np (mag ax * mag ay) nz (mag az * 2 ^ lowest) den) ⌝ }
 {
     let p = multiply(ax, ay);
-    let z = place(az);
+    let z = scale(az);
     let same = alike(np, nz);
     if larger(z.hi, z.lo, z.exp, p.hi, p.lo, p.exp) {
         signed(nz, combine(same, z.hi, z.lo, z.exp, p.hi, p.lo, p.exp))
@@ -342,18 +349,14 @@ fn negative(x: f64) -> bool
     requires { ⌜ T (not (isNan x)) ⌝ }
     ensures { λ r. ⌜ r ≡ leb (2 ^ 63) (toBits binary64 x) ⌝ }
 {
-    f64::to_bits(x) >= 0x8000_0000_0000_0000
+    f64::to_bits(x) >= SIGN_BIT
 }
 
 // Neither 0 nor an infinity.
 fn plain(a: u64) -> bool
-    ensures { λ r. ⌜ (r ≡ true → (0 < a) × (a < 2047 * 2 ^ 52)) × (r ≡ false → (0 < a) → 2047 * 2 ^ 52 ≤ a) ⌝ }
+    ensures { λ r. ⌜ (r ≡ true → (0 < a) × (a < infinityBits)) × (r ≡ false → (0 < a) → infinityBits ≤ a) ⌝ }
 {
-    if a == 0 {
-        false
-    } else {
-        a < 0x7ff0_0000_0000_0000
-    }
+    if a == 0 { false } else { a < INFINITY_BITS }
 }
 
 pub fn opposite(a: bool, b: bool) -> bool
@@ -382,7 +385,7 @@ pub fn fused_numbers(x: f64, y: f64, z: f64) -> f64
     if az == 0 {
         return x * y;
     }
-    if az >= 0x7ff0_0000_0000_0000 {
+    if az >= INFINITY_BITS {
         return z;
     }
     f64::from_bits(finite(opposite(negative(x), negative(y)), ax, ay, negative(z), az))

@@ -25,20 +25,20 @@ unfoldable pub number : Float → Float
 number x = cond (eq x x) x plusZero
 
 -- the pattern of |x|
-unfoldable pub pattern : Float → ℕ
-pattern x = toBits binary64 (number x) % 2 ^ 63
+unfoldable pub magnitudeOrZero : Float → ℕ
+magnitudeOrZero x = toBits binary64 (number x) % 2 ^ 63
 
 -- the 26 leading digits
 unfoldable pub leading : ℕ → Float
 leading b = bits (b - b % 2 ^ 27)
 
 -- nearly a × a − q
-unfoldable pub squareRest : Float → Float → Float → Float
-squareRest a h q = (a ⊖ h) ⊗ (a ⊕ h) ⊖ (q ⊖ h ⊗ h)
+unfoldable pub squareResidual : Float → Float → Float → Float
+squareResidual a h q = (a ⊖ h) ⊗ (a ⊕ h) ⊖ (q ⊖ h ⊗ h)
 
 -- q + z − s, for the rounded sum s
-unfoldable pub sumRest : Float → Float → Float → Float
-sumRest q z s = cond (lt z q) z q ⊖ (s ⊖ cond (lt z q) q z)
+unfoldable pub sumResidual : Float → Float → Float → Float
+sumResidual q z s = cond (lt z q) z q ⊖ (s ⊖ cond (lt z q) q z)
 
 abbrev pub within : Float → Float → Float → Bool
 within low x high = le low x && le x high
@@ -51,9 +51,9 @@ settled ok s v r =
 
 unfoldable pub squareAdd : Float → Float → Float
 squareAdd x z =
-    let a = bits (pattern x) in
+    let a = bits (magnitudeOrZero x) in
     let q = a ⊗ a in
     let s = q ⊕ z in
-    let v = squareRest a (leading (pattern x)) q ⊕ sumRest q z s in
+    let v = squareResidual a (leading (magnitudeOrZero x)) q ⊕ sumResidual q z s in
     let plain = within twoToMinus200 a twoTo200 in
     settled (plain && within twoToMinus400 z twoTo400) s v (cond (plain && eq z plusZero) q nan)

@@ -5,6 +5,7 @@ ghost use mathlib.Core.Bool.{false};
 ghost use mathlib.Core.Path.{_≡_};
 ghost use Prim.Native.Nat.{_≤_};
 ghost use lib.Ieee.{isNan};
+ghost use Rattle.binary64.specs.Format.{infinityBits};
 ghost use Rattle.binary64.specs.Operations.{fma};
 ghost use Rattle.fused_lanes.specs.Lanes as Spec;
 use ieee754::not_a_number;
@@ -29,31 +30,31 @@ fn number(x: f64) -> f64
 }
 
 // The pattern of |x|.
-fn pattern(x: f64) -> u64
-    ensures { λ r. ⌜ r ≡ Spec.pattern x ⌝ }
-    ensures { λ r. ⌜ r ≤ 0x7ff0_0000_0000_0000 ⌝ }
+fn magnitude_or_zero(x: f64) -> u64
+    ensures { λ r. ⌜ r ≡ Spec.magnitudeOrZero x ⌝ }
+    ensures { λ r. ⌜ r ≤ infinityBits ⌝ }
 {
-    f64::to_bits(number(x)) % 0x8000_0000_0000_0000
+    f64::to_bits(number(x)) % binary64::SIGN_BIT
 }
 
 // The 26 leading digits: their square is exact.
 fn leading(b: u64) -> f64
-    requires { ⌜ b ≤ 0x7ff0_0000_0000_0000 ⌝ }
+    requires { ⌜ b ≤ infinityBits ⌝ }
     ensures { λ r. ⌜ r ≡ Spec.leading b ⌝ }
 {
     f64::from_bits(b - b % 0x800_0000)
 }
 
 // Nearly a * a - q, for the rounded square q.
-fn square_rest(a: f64, h: f64, q: f64) -> f64
-    ensures { λ r. ⌜ r ≡ Spec.squareRest a h q ⌝ }
+fn square_residual(a: f64, h: f64, q: f64) -> f64
+    ensures { λ r. ⌜ r ≡ Spec.squareResidual a h q ⌝ }
 {
     (a - h) * (a + h) - (q - h * h)
 }
 
 // q + z - s, for the rounded sum s: the larger term is taken off first.
-fn sum_rest(q: f64, z: f64, s: f64) -> f64
-    ensures { λ r. ⌜ r ≡ Spec.sumRest q z s ⌝ }
+fn sum_residual(q: f64, z: f64, s: f64) -> f64
+    ensures { λ r. ⌜ r ≡ Spec.sumResidual q z s ⌝ }
 {
     let below = z < q;
     select(below, z, q) - (s - select(below, q, z))
@@ -73,11 +74,11 @@ pub fn square_add(x: f64, z: f64) -> f64
     ensures { λ r. ⌜ r ≡ Spec.squareAdd x z ⌝ }
     ensures { λ r. ⌜ (isNan r ≡ false → r ≡ fma x x z) ⌝ }
 {
-    let b = pattern(x);
+    let b = magnitude_or_zero(x);
     let a = f64::from_bits(b);
     let q = a * a;
     let s = q + z;
-    let v = square_rest(a, leading(b), q) + sum_rest(q, z, s);
+    let v = square_residual(a, leading(b), q) + sum_residual(q, z, s);
     let plain = (a >= TWO_TO_MINUS_200) & (a <= TWO_TO_200);
     let alone = select(plain & (z == 0.0), q, not_a_number());
     settled(

@@ -1,4 +1,4 @@
-pub mod Tests
+pub mod Numbers
 pub mod Error
 pub mod Residual
 pub mod Candidate

@@ -4,6 +4,9 @@ ghost use lib.Ieee.{nan, inf, isNan};
 ghost use mathlib.Core.Bool.{false, cond};
 ghost use Rattle.ieee754.specs.Ieee754 as Spec;
 
+// core::f64::consts::PI
+pub const PI: f64 = 3.141592653589793;
+
 // a * b + c, rounded once: the Rust's a.mul_add(b, c).
 pub fn mul_add(a: f64, b: f64, c: f64) -> f64
     ensures { λ r. ⌜ r ≡ Spec.fma a b c ⌝ }
@@ -86,7 +89,7 @@ pub fn is_sign_negative(x: f64) -> bool
     if is_nan(x) {
         return false;
     }
-    f64::to_bits(x) >= 0x8000_0000_0000_0000
+    f64::to_bits(x) >= binary64::SIGN_BIT
 }
 
 // r with its sign turned where s.

@@ -9,18 +9,17 @@ use lib.Dec.{eqb}
 use lib.ListN.{length}
 use lib.Ieee.{Float}
 use Rattle.lists.specs.Counting.{anyOf}
-use Rattle.mesh.specs.Mesh.{Mesh, node, nnode, ntri, triangleIndices, triangleNodes}
+use Rattle.mesh.specs.Mesh.{Mesh, node, ntri, triangleIndices, triangleNodes}
 use Rattle.refusal.proofs.Tests.{or-off}
-use Rattle.scatter.specs.Entries.{same, blockEntries, contributions, cellSum, square}
+use Rattle.scatter.specs.Entries.{same, blockEntries, contributions, square}
 use Rattle.scatter.specs.Renewal.{renewed}
 use Rattle.scatter.proofs.Misses.{contributions-append, source-misses, target-misses, both-miss}
 use Rattle.scatter.proofs.Renewals.{renewed-from}
 use Rattle.pair_loops.specs.Additions.{Block, pairEntries, targetEntries, sourceEntries, entries}
-use Rattle.inductance.specs.Matrix.{cell, matrix}
 use Rattle.inductance.specs.Change.{Changed, Apart}
 
 -- a pair adds nothing to (a, b) if one of its panels holds neither a nor b
-pub pair-misses-source : (f : Block) (m : Mesh) (i j a b : ℕ)
+pair-misses-source : (f : Block) (m : Mesh) (i j a b : ℕ)
     → anyOf (same a) (triangleIndices m i) ≡ false → anyOf (same b) (triangleIndices m i) ≡ false → contributions (pairEntries f m i j) a b ≡ []
 unfolding pairEntries
 pair-misses-source f m i j a b ha hb =
@@ -29,7 +28,7 @@ pair-misses-source f m i j a b ha hb =
     let v = f (triangleNodes m i) (triangleNodes m j) in
     both-miss (eqb i j) (blockEntries s t v 0) a b (source-misses s t v 0 a b ha) (source-misses s t v 0 b a hb)
 
-pub pair-misses-target : (f : Block) (m : Mesh) (i j a b : ℕ)
+pair-misses-target : (f : Block) (m : Mesh) (i j a b : ℕ)
     → anyOf (same a) (triangleIndices m j) ≡ false → anyOf (same b) (triangleIndices m j) ≡ false → contributions (pairEntries f m i j) a b ≡ []
 unfolding pairEntries
 pair-misses-target f m i j a b ha hb =
@@ -95,12 +94,8 @@ module _ (f : Block) (changed : ℕ → Bool) (m m′ : Mesh) (d : Changed chang
         (sources-same c (suc i) (omega arith))
         ∙ sym (contributions-append (targetEntries f m i i (ntri m - i)) (sourceEntries f m (suc i) c) a b)
 
-    pub contributions-kept : contributions (entries f m′) a b ≡ contributions (entries f m) a b
+    contributions-kept : contributions (entries f m′) a b ≡ contributions (entries f m) a b
     contributions-kept = ap (λ (k : ℕ). contributions (sourceEntries f m′ 0 k) a b) count-same ∙ sources-same (ntri m) 0 (omega arith)
-
-    pub cell-kept : cell f m′ a b ≡ cell f m a b
-    unfolding cell
-    cell-kept = ap cellSum contributions-kept
 
   -- any cells that are a function of their contributions: the old mesh's, renewed where a row or a column is in r, are the new mesh's, if every node outside r is apart
   pub renewed-by : (sum : List Float → Float) (r : ℕ → Bool) → ((a : ℕ) → r a ≡ false → Apart m changed a) → (n : ℕ)
@@ -109,7 +104,3 @@ module _ (f : Block) (changed : ℕ → Bool) (m m′ : Mesh) (d : Changed chang
   renewed-by sum r out n =
       renewed-from r (λ a b. sum (contributions (entries f m) a b)) (λ a b. sum (contributions (entries f m′) a b)) n
       (λ a b h. let w = or-off (r a) (r b) h in ap sum (contributions-kept a b (out a (w .0)) (out b (w .1))))
-
-  pub renewed-fresh : (r : ℕ → Bool) → ((a : ℕ) → r a ≡ false → Apart m changed a) → nnode m′ ≡ nnode m → renewed r (cell f m′) (nnode m) (matrix f m) ≡ matrix f m′
-  unfolding cell matrix
-  renewed-fresh r out e = renewed-by cellSum r out (nnode m) ∙ ap (λ (n : ℕ). square n (cell f m′)) (sym e)

@@ -2,6 +2,6 @@ pub mod Within
 pub mod Renewing
 pub mod Ready
 pub mod Rules
-pub mod Numbers
+pub mod Theorems
 pub mod Change
-pub mod TwoPanels
+pub mod Examples

@@ -13,13 +13,13 @@ use Rattle.scatter.proofs.Clearing.{renew-all}
 use Rattle.pair_loops.specs.Additions.{Block, entries}
 use Rattle.inductance.specs.Matrix.{cell}
 
-pub nest-done : (r : ℕ → Bool) (n : ℕ) (f : Block) (m : Mesh) (old start new : List Float)
+pub loops-done : (r : ℕ → Bool) (n : ℕ) (f : Block) (m : Mesh) (old start new : List Float)
     → Within n (entries f m)
     → start ≡ renewed r (λ a b. plusZero) n old
     → new ≡ renewing r n start (entries f m)
     → new ≡ renewed r (cell f m) n old
 unfolding cell
-nest-done r n f m old start new w s e = e ∙ renew-all r n (entries f m) old start w s
+loops-done r n f m old start new w s e = e ∙ renew-all r n (entries f m) old start w s
 
 pub cleared-length : (r : ℕ → Bool) (n : ℕ) (old : List Float) {new : List Float} → length old ≡ n * n → new ≡ renewed r (λ a b. plusZero) n old → length new ≡ length old
 cleared-length r n old l e = ap (λ (x : List Float). length x) e ∙ length-renewed r (λ a b. plusZero) n old ∙ sym l

@@ -1,5 +1,5 @@
 // inductance.rs: the nodal inductance matrix of a triangle mesh, and the cells of marked nodes worked out
-// anew. One nest of loops serves both.
+// anew. The same loops serve both.
 ghost use mathlib.Core.Path.{_≡_};
 ghost use Rattle.lists.specs.Lent.{passed, left};
 ghost use Rattle.mesh.specs.Mesh.{passedMesh, lentMesh};

@@ -13,7 +13,7 @@ pub fn square_lane(x: f64, y: f64, z: f64) -> f64
     fused_lanes::square_add(x, fused_lanes::square_add(y, z * z))
 }
 
-// The length of (x, y, z), whatever the guess g of its root is; s is its square, or NaN.
+// The length of (x, y, z), whatever the estimate g of its root is; s is its square, or NaN.
 pub fn length_of(x: f64, y: f64, z: f64, s: f64, g: f64) -> f64
     requires { ⌜ Spec.SquareOf (x ∷ y ∷ z ∷ []) s ⌝ }
     ensures { λ r. ⌜ r ≡ norm3 (x ∷ y ∷ z ∷ []) ⌝ }

@@ -1,5 +1,5 @@
 // What the C interface hands back in one array: a panel's record and the two halves of a triangle as single numbers.
-use panel_points::nine;
+use panel_points::coordinates;
 use potential::UniformTriangle;
 ghost use mathlib.Core.Path.{_≡_};
 ghost use Prim.Native.Nat.{_+_, _≤_};
@@ -44,8 +44,8 @@ pub fn record_numbers(p: UniformTriangle) -> [f64; 34]
 pub fn eighteen(h: [[[f64; 3]; 3]; 2]) -> [f64; 18]
     ensures { λ r. ⌜ r ≡ halvesOf h ⌝ }
 {
-    let a = nine(h[0]);
-    let b = nine(h[1]);
+    let a = coordinates(h[0]);
+    let b = coordinates(h[1]);
     let mut out = [0.0; 18];
     put(&a, 0, &mut out);
     put(&b, 9, &mut out);

@@ -1,4 +1,3 @@
 pub mod Sums
 pub mod Sizes
-pub mod Numbers
-pub mod Rows
+pub mod Theorems

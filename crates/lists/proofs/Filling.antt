@@ -34,7 +34,7 @@ module _ {A : Type 0} where
   pub fill-length : (held : List A) (n : ℕ) (g : ℕ → A) (k : ℕ) → length held ≡ n → k ≤ n → length (filled held n g k) ≡ length held
   fill-length held n g k e l = length-paste held 0 (tabulate n g) k (omega arith) (rw (tabulate-length n g) l)
 
-  pub fill-turn : (held : List A) (n : ℕ) (g : ℕ → A) (k : ℕ) (v : A) → length held ≡ n → k < n → v ≡ g k → set (filled held n g k) k v ≡ filled held n g (k + 1)
+  fill-turn : (held : List A) (n : ℕ) (g : ℕ → A) (k : ℕ) (v : A) → length held ≡ n → k < n → v ≡ g k → set (filled held n g k) k v ≡ filled held n g (k + 1)
   fill-turn held n g k v e l h =
       let w = tabulate-get v n g k l in
       let t = paste-suc held 0 (tabulate n g) k v (omega arith) (rw (tabulate-length n g) l) in
@@ -43,7 +43,7 @@ module _ {A : Type 0} where
       ∙ t
       ∙ ap (filled held n g) (sym (add-one k))
 
-  pub fill-end : (held : List A) (n : ℕ) (g : ℕ → A) → length held ≡ n → filled held n g n ≡ tabulate n g
+  fill-end : (held : List A) (n : ℕ) (g : ℕ → A) → length held ≡ n → filled held n g n ≡ tabulate n g
   fill-end held n g e =
       let z : drop (0 + n) held ≡ [] = ap (λ (k : ℕ). drop k held) (zero-add n ∙ sym e) ∙ drop-length held in
       ap (λ (r : List A). take n (tabulate n g) ++ r) z ∙ append-nil (take n (tabulate n g)) ∙ take-all n (tabulate n g) (le-of-eq (tabulate-length n g))

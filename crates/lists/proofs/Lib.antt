@@ -1,3 +1,7 @@
+pub mod Columns
 pub mod Counting
+pub mod Filled
 pub mod Filling
+pub mod Indices
+pub mod Runs
 pub mod Sums

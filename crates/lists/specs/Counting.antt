@@ -10,8 +10,8 @@ anyOf t [] = false
 anyOf t (k ∷ ks) = t k || anyOf t ks
 
 -- an array of three, element by element
-abbrev pub three : List ℕ → List ℕ
-three v = getD v 0 0 ∷ getD v 1 0 ∷ getD v 2 0 ∷ []
+abbrev pub triple : List ℕ → List ℕ
+triple v = getD v 0 0 ∷ getD v 1 0 ∷ getD v 2 0 ∷ []
 
 -- some number below c passes the test
 unfoldable pub someBelow : (ℕ → Bool) → ℕ → Bool

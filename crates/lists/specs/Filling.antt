@@ -1,7 +1,10 @@
 -- Shared by the definitions: a list of n elements, floats or indices, given one by one, and an output that is filled with it from the front or from an index on. Definitions only.
 use mathlib.Core.List.{List, [], _∷_}
-use Prim.Native.Nat.{ℕ, zero, suc}
+use mathlib.Core.Path.{_≡_}
+use Prim.Native.Nat.{ℕ, zero, suc, _<_}
+use lib.Ieee.{Float}
 use lib.Seq.{paste}
+use Rattle.binary64.specs.Binary64.{at}
 
 module _ {A : Type 0} where
   -- g i, g (i + 1), …: c numbers
@@ -20,3 +23,7 @@ module _ {A : Type 0} where
   -- ---- a run of c turns at once, from a
   abbrev pub run : List A → ℕ → ℕ → (ℕ → A) → ℕ → List A
   run held a c h k = paste held a (tabulate c h) k
+
+-- the first n elements of r are g 0, g 1, …
+abbrev pub Each : ℕ → (ℕ → Float) → List Float → Type 0
+Each n g r = (i : ℕ) → i < n → at r i ≡ g i

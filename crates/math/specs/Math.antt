@@ -1,7 +1,7 @@
 -- src/math.rs on vectors of three numbers, an array's value being a list, and the constants of src/lib.rs. Definitions only.
 use mathlib.Core.List.{List, [], _∷_}
 use lib.Ieee.{Float}
-use Rattle.binary64.specs.Binary64.{_⊕_, _⊖_, _⊗_, _⊘_, at, bits, plusZero, one, four}
+use Rattle.binary64.specs.Binary64.{_⊕_, _⊖_, _⊗_, _⊘_, at, bits, plusZero, one, four, π}
 use Rattle.ieee754.specs.Ieee754.{fma, sqrt}
 
 -- a vector in space
@@ -38,13 +38,10 @@ cross3 a b =
     ∷ fma (at a 0) (at b 1) ((plusZero ⊖ at b 0) ⊗ at a 1)
     ∷ []
 
-abbrev pub pi : Float
-pi = bits 0x4009_21fb_5444_2d18
-
 -- 0.999_999_999_87 * PI * 4e-7, in H/m
 unfoldable pub mu0 : Float
-mu0 = bits 0x3fef_ffff_ffee_2208 ⊗ pi ⊗ bits 0x3e9a_d7f2_9abc_af48
+mu0 = bits 0x3fef_ffff_ffee_2208 ⊗ π ⊗ bits 0x3e9a_d7f2_9abc_af48
 
 -- MU_0 / (4.0 * PI)
 unfoldable pub mu0Over4Pi : Float
-mu0Over4Pi = mu0 ⊘ (four ⊗ pi)
+mu0Over4Pi = mu0 ⊘ (four ⊗ π)

@@ -1,8 +1,7 @@
 // src/math.rs: vectors of three numbers by value; src/lib.rs: the magnetic constants.
+use ieee754::PI;
 ghost use mathlib.Core.Path.{_≡_};
 ghost use Rattle.math.specs.Math as Spec;
-
-const PI: f64 = 3.141592653589793;
 
 const MU_0: f64 = 0.999_999_999_87 * PI * 4e-7;
 

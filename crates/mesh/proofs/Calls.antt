@@ -47,7 +47,7 @@ module _ (n p : ℕ) (m : Mesh) where
     call-before k z a o = of-front pre (meshChecks n p m ++ post) k z (lacks-parts k (meshChecks n p m) post (mesh-lacks k a) o)
 
     -- a number of the mesh's
-    pub call-mesh : (k : ℕ) → T (not (eqb k 0)) → T (lacks k pre) → T (lacks k post) → (number ≡ k) ↔ (Before × (meshRefusal n p m ≡ k))
+    call-mesh : (k : ℕ) → T (not (eqb k 0)) → T (lacks k pre) → T (lacks k post) → (number ≡ k) ↔ (Before × (meshRefusal n p m ≡ k))
     unfolding meshRefusal
     call-mesh k z l o =
         let w = of-back pre (meshChecks n p m ++ post) k z l in

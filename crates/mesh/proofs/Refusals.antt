@@ -42,7 +42,7 @@ limits-off n p m = (
 )
 
 -- ---- 3
-pub below-off : (m : Mesh) (i : ℕ) → (missesNode (nnode m) (triangleIndices m i) ≡ false) ↔ Below m i
+below-off : (m : Mesh) (i : ℕ) → (missesNode (nnode m) (triangleIndices m i) ≡ false) ↔ Below m i
 unfolding missesNode anyOf
 below-off m i = (
   (λ e.

@@ -6,7 +6,7 @@ ghost use mathlib.Core.List.{[]};
 ghost use Prim.Native.Nat.{_<_};
 ghost use lib.ListN.{length};
 ghost use Rattle.lists.specs.Lent.{passed};
-ghost use Rattle.lists.specs.Counting.{three};
+ghost use Rattle.lists.specs.Counting.{triple};
 ghost use Rattle.mesh.specs.Conditions.{NodeColumnsAlike, PanelColumnsAlike, Below, NoneMissing, Tested};
 ghost use Rattle.mesh.specs.Mesh as Spec;
 ghost use Rattle.mesh.specs.Mesh.{meshOf, maxNodes, maxPanels, passedMesh, lentMesh};
@@ -69,7 +69,7 @@ pub fn passes_limits(nodes: usize, panels: usize, n: usize, p: usize) -> bool
 
 // 3, of one panel
 pub fn misses_node(n: usize, indices: [usize; 3]) -> bool
-    ensures { λ r. ⌜ r ≡ Spec.missesNode n (three indices) ⌝ }
+    ensures { λ r. ⌜ r ≡ Spec.missesNode n (triple indices) ⌝ }
 {
     (n <= indices[0]) | ((n <= indices[1]) | (n <= indices[2]))
 }

@@ -1,3 +1,3 @@
 pub mod Panels
 pub mod Ready
-pub mod Numbers
+pub mod Theorems

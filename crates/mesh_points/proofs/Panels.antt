@@ -15,6 +15,12 @@ use Rattle.mesh.specs.Mesh.{Mesh, triangleNodes}
 abbrev pub column : Mesh → (Tri → ℕ → Float) → ℕ → ℕ → Float
 column m f C j = f (triangleNodes m (j / C)) (j % C)
 
+-- a column for p panels, held before the loop, now after i of them
+pub record PanelsTo (m : Mesh) (f : Tri → ℕ → Float) (C p : ℕ) (held : List Float) (i : ℕ) (now : List Float) : Type 0 where
+  pub long : length held ≡ p * C
+  pub below : i ≤ p
+  pub written : now ≡ filled held (p * C) (column m f C) (i * C)
+
 number-at : (m : Mesh) (f : Tri → ℕ → Float) (C i k : ℕ) → k < C → f (triangleNodes m i) k ≡ column m f C (i * C + k)
 number-at m f C i k l =
     let some : 0 < C = omega arith in
@@ -23,31 +29,37 @@ number-at m f C i k l =
     let place : (i * C + k) % C ≡ k = mul-add-mod-self-right i C k ∙ mod-eq-of-lt l in
     rw (panel, place)
 
-module _ (m : Mesh) (f : Tri → ℕ → Float) (C p : ℕ) (held : List Float) (long : length held ≡ p * C) where
-  next-panel : (i : ℕ) → i < p → i * C + C ≤ p * C
-  next-panel i l = le-trans (le-of-eq (sym (suc-mul i C))) (mul-le-mul-right C l)
+next-panel : (C p i : ℕ) → i < p → i * C + C ≤ p * C
+next-panel C p i l = le-trans (le-of-eq (sym (suc-mul i C))) (mul-le-mul-right C l)
 
-  one-more : (i : ℕ) → i * C + C ≡ (i + 1) * C
-  one-more i = sym (suc-mul i C) ∙ ap (λ (x : ℕ). x * C) (sym (add-one i))
+next-start : (C i : ℕ) → i * C + C ≡ (i + 1) * C
+next-start C i = sym (suc-mul i C) ∙ ap (λ (x : ℕ). x * C) (sym (add-one i))
 
-  pub panels-start : held ≡ filled held (p * C) (column m f C) (0 * C)
-  panels-start = fill-start held (p * C) (column m f C) ∙ ap (filled held (p * C) (column m f C)) (sym (zero-mul C))
+module _ {m : Mesh} {f : Tri → ℕ → Float} {C p : ℕ} {held : List Float} where
+  pub panels-begun : length held ≡ p * C → PanelsTo m f C p held 0 held
+  panels-begun e = record { long = e; below = omega arith; written = fill-start held (p * C) (column m f C) ∙ ap (filled held (p * C) (column m f C)) (sym (zero-mul C)) }
 
-  pub panels-long : (now : List Float) (i : ℕ) → i ≤ p → now ≡ filled held (p * C) (column m f C) (i * C) → length now ≡ length held
-  panels-long now i l w = ap length w ∙ fill-length held (p * C) (column m f C) (i * C) long (mul-le-mul-right C l)
+  pub panels-long : {i : ℕ} {now : List Float} → PanelsTo m f C p held i now → length now ≡ length held
+  panels-long {i} r = ap length (r .written) ∙ fill-length held (p * C) (column m f C) (i * C) (r .long) (mul-le-mul-right C (r .below))
 
-  pub panels-room : (now : List Float) (i : ℕ) → i < p → now ≡ filled held (p * C) (column m f C) (i * C) → i * C + C ≤ length now
-  panels-room now i l w = le-trans (next-panel i l) (le-of-eq (sym (panels-long now i (omega arith) w ∙ long)))
+  -- there is room for the next panel's numbers
+  pub panel-room : {i : ℕ} {now : List Float} → PanelsTo m f C p held i now → i < p → i * C + C ≤ length now
+  panel-room {i} r l = le-trans (next-panel C p i l) (le-of-eq (sym (panels-long r ∙ r .long)))
 
-  pub panels-turn : (now new : List Float) (i start : ℕ) (t : Tri) → i < p → start ≡ i * C → t ≡ triangleNodes m i → now ≡ filled held (p * C) (column m f C) (i * C)
-      → new ≡ run now start C (f t) C → new ≡ filled held (p * C) (column m f C) ((i + 1) * C)
-  panels-turn now new i start t l s e w u =
-      u
-      ∙ ap (λ (a : ℕ). run now a C (f t) C) s
-      ∙ ap (λ (v : Tri). run now (i * C) C (f v) C) e
-      ∙ ap (λ (r : List Float). run r (i * C) C (f (triangleNodes m i)) C) w
-      ∙ run-run held (p * C) (column m f C) (f (triangleNodes m i)) (i * C) C (next-panel i l) (λ k h. number-at m f C i k h)
-      ∙ ap (filled held (p * C) (column m f C)) (one-more i)
+  -- panel i's numbers from index start, which is i·C
+  pub panel-more : {i start : ℕ} {t : Tri} {now new : List Float} → PanelsTo m f C p held i now → i < p → start ≡ i * C → t ≡ triangleNodes m i → new ≡ run now start C (f t) C → PanelsTo m f C p held (i + 1) new
+  panel-more {i} {start} {t} {now} r l s e u =
+      record {
+        long = r .long;
+        below = omega arith;
+        written =
+            u
+            ∙ ap (λ (a : ℕ). run now a C (f t) C) s
+            ∙ ap (λ (v : Tri). run now (i * C) C (f v) C) e
+            ∙ ap (λ (q : List Float). run q (i * C) C (f (triangleNodes m i)) C) (r .written)
+            ∙ run-run held (p * C) (column m f C) (f (triangleNodes m i)) (i * C) C (next-panel C p i l) (λ k h. number-at m f C i k h)
+            ∙ ap (filled held (p * C) (column m f C)) (next-start C i);
+      }
 
-  pub panels-end : (now : List Float) (i : ℕ) → i ≡ p → now ≡ filled held (p * C) (column m f C) (i * C) → now ≡ tabulate (p * C) (column m f C)
-  panels-end now i z w = column-end held now (p * C) (column m f C) (i * C) long (ap (λ (x : ℕ). x * C) z) w
+  pub panels-end : {i : ℕ} {now : List Float} → PanelsTo m f C p held i now → i ≡ p → now ≡ tabulate (p * C) (column m f C)
+  panels-end {i} {now} r z = column-end held now (p * C) (column m f C) (i * C) (r .long) (ap (λ (x : ℕ). x * C) z) (r .written)

@@ -16,6 +16,7 @@ use Rattle.tri.specs.declared.quadrature.Rule.{Rule}
 use Rattle.tri.specs.declared.quadrature.Rule.the-variants.{Known, Unknown}
 use Rattle.refusal.specs.Numbers.{outputLength, noSuchChoice, zeroArea}
 use Rattle.refusal.specs.Checks.{Check, check, first, after}
+use Rattle.lists.specs.Columns.{columnsDiffer, ColumnsDue}
 use Rattle.lists.specs.Filling.{tabulate, run}
 use Rattle.mesh.specs.Conditions.{Refused4, Accepted, MeshNumbered}
 use Rattle.mesh.specs.Mesh.{Mesh, ntri, triangleNodes, meshChecks, maxNodes, maxPanels}
@@ -37,12 +38,12 @@ meshWeights kind m = tabulate (ntri m * quadratureCount kind) (λ j. quadratureW
 
 -- ---- the call
 -- 6: an output that has not one number a point
-unfoldable pub pointOutputsDiffer : ℕ → ℕ → ℕ → ℕ → ℕ → Bool
-pointOutputsDiffer n a b c d = not (eqb a n) || (not (eqb b n) || (not (eqb c n) || not (eqb d n)))
+abbrev pub pointColumnsDiffer : ℕ → ℕ → ℕ → ℕ → ℕ → Bool
+pointColumnsDiffer n lx ly lz lw = columnsDiffer n lx ly lz || not (eqb lw n)
 
 -- the check after the mesh's, for p panels
 abbrev pub pointChecks : QuadratureKind → ℕ → ℕ → ℕ → ℕ → ℕ → List Check
-pointChecks kind p lx ly lz lw = check outputLength (pointOutputsDiffer (p * quadratureCount kind) lx ly lz lw) ∷ []
+pointChecks kind p lx ly lz lw = check outputLength (pointColumnsDiffer (p * quadratureCount kind) lx ly lz lw) ∷ []
 
 -- the number under a rule, and by the rule's number
 unfoldable pub pointsRefusal : QuadratureKind → Mesh → ℕ → ℕ → ℕ → ℕ → ℕ
@@ -59,14 +60,12 @@ pointsIn (Known kind) = quadratureCount kind
 pointsIn Unknown = 0
 
 -- not 6: each output has one number a point
-pub record PointOutputsDue (points lx ly lz lw : ℕ) : Type 0 where
-  pub x : lx ≡ points
-  pub y : ly ≡ points
-  pub z : lz ≡ points
+pub record PointColumnsDue (points lx ly lz lw : ℕ) : Type 0 where
+  pub coordinates : ColumnsDue points lx ly lz
   pub weights : lw ≡ points
 
 abbrev pub OutputsDue : ℕ → Mesh → ℕ → ℕ → ℕ → ℕ → Type 0
-OutputsDue number m lx ly lz lw = PointOutputsDue (ntri m * pointsIn (quadratureRule number)) lx ly lz lw
+OutputsDue number m lx ly lz lw = PointColumnsDue (ntri m * pointsIn (quadratureRule number)) lx ly lz lw
 
 -- a number is the call's exactly if its condition holds and no earlier one's
 pub record PointsNumbered (number : ℕ) (m : Mesh) (lx ly lz lw r : ℕ) : Type 0 where
@@ -115,13 +114,10 @@ PanelRun kind t start px py pz pw px' py' pz' pw' =
 -- columns of one number a point for a mesh that was accepted
 pub record PointsReady (kind : QuadratureKind) (m : Mesh) (px py pz pw : List Float) : Type 0 where
   pub accepted : Accepted maxNodes maxPanels m
-  pub x : length px ≡ ntri m * quadratureCount kind
-  pub y : length py ≡ ntri m * quadratureCount kind
-  pub z : length pz ≡ ntri m * quadratureCount kind
-  pub weights : length pw ≡ ntri m * quadratureCount kind
+  pub due : PointColumnsDue (ntri m * quadratureCount kind) (length px) (length py) (length pz) (length pw)
 
 -- the four columns of an accepted mesh
-pub record Filled (kind : QuadratureKind) (m : Mesh) (px py pz pw : List Float) : Type 0 where
+pub record PointsWritten (kind : QuadratureKind) (m : Mesh) (px py pz pw : List Float) : Type 0 where
   pub x : px ≡ meshPoints kind m 0
   pub y : py ≡ meshPoints kind m 1
   pub z : pz ≡ meshPoints kind m 2

@@ -7,7 +7,7 @@ ghost use Rattle.tri.specs.Quadrature.{quadratureCount, quadratureRow};
 ghost use Rattle.tri.specs.declared.quadrature.Rule.the-variants.{Known};
 ghost use Rattle.mesh.specs.Mesh.{passedMesh, lentMesh};
 ghost use Rattle.mesh_points.specs.QuadraturePoints as Spec;
-ghost use Rattle.mesh_points.specs.QuadraturePoints.{StoredPoint, Within, PointsReady, Filled, PointsBy, PointsUnder};
+ghost use Rattle.mesh_points.specs.QuadraturePoints.{StoredPoint, Within, PointsReady, PointsWritten, PointsBy, PointsUnder};
 use tri::quadrature::QuadratureKind;
 use tri::quadrature::Rule;
 
@@ -87,7 +87,7 @@ fn fill_points(
     pw: &mut [f64],
 )
     requires { ⌜ PointsReady kind (lentMesh x y z t0 t1 t2) (now px) (now py) (now pz) (now pw) ⌝ }
-    ensures { λ _. ⌜ Filled kind (passedMesh x y z t0 t1 t2) (left px) (left py) (left pz) (left pw) ⌝ }
+    ensures { λ _. ⌜ PointsWritten kind (passedMesh x y z t0 t1 t2) (left px) (left py) (left pz) (left pw) ⌝ }
 {
     let count = tri::quadrature::quadrature_count(kind);
     let mut i = 0;
@@ -96,13 +96,6 @@ fn fill_points(
         fill_panel(kind, t, i * count, px, py, pz, pw);
         i += 1;
     }
-}
-
-// 6
-fn point_outputs_differ(n: usize, a: usize, b: usize, c: usize, d: usize) -> bool
-    ensures { λ r. ⌜ r ≡ Spec.pointOutputsDiffer n a b c d ⌝ }
-{
-    (a != n) | ((b != n) | ((c != n) | (d != n)))
 }
 
 // The number under a rule, 0 if the call is done.
@@ -126,7 +119,7 @@ fn points_refusal(
         return refusal;
     }
     let due = t0.len() * tri::quadrature::quadrature_count(kind);
-    if point_outputs_differ(due, lx, ly, lz, lw) {
+    if lists::columns_differ(due, lx, ly, lz) | (lw != due) {
         return refusal::OUTPUT_LENGTH;
     }
     0

@@ -28,7 +28,7 @@ use Rattle.node_move.specs.Move.{moved, joins, ring, Done, MoveReady}
 pub outside : (m : Mesh) (changed : ℕ → Bool) (a : ℕ) → ring m changed a ≡ false → Apart m changed a
 outside m changed a h p l t = let g = none-at (joins m changed a) (ntri m) p h l in rw t at g
 
-pub move-changes : (m : Mesh) (v : ℕ) (x y z : Float) → Changed (same v) m (moved m v x y z)
+move-changes : (m : Mesh) (v : ℕ) (x y z : Float) → Changed (same v) m (moved m v x y z)
 move-changes m v x y z = record { t0-same = refl; t1-same = refl; t2-same = refl; kept = λ a h. sym (elsewhere m v x y z a (eqb-false a v h)) }
 
 -- the cells and the fresh matrix of another sum than the rounded one
@@ -39,7 +39,7 @@ abbrev pub matrixBy : (List Float → Float) → Block → Mesh → List Float
 matrixBy sum f m = square (nnode m) (cellBy sum f m)
 
 module _ (f : Block) (m : Mesh) (v : ℕ) (x y z : Float) where
-  pub move-fresh-by : (sum : List Float → Float)
+  move-fresh-by : (sum : List Float → Float)
       → renewed (ring m (same v)) (cellBy sum f (moved m v x y z)) (nnode m) (matrixBy sum f m) ≡ matrixBy sum f (moved m v x y z)
   move-fresh-by sum =
       renewed-by f (same v) m (moved m v x y z) (move-changes m v x y z) sum (ring m (same v)) (outside m (same v)) (nnode m)

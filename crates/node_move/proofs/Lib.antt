@@ -1,4 +1,4 @@
 pub mod Laws
 pub mod Numbers
 pub mod Refused
-pub mod Runs
+pub mod Theorems

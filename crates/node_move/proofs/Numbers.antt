@@ -1,7 +1,7 @@
 -- The move's number by its conditions: 12 stands before the mesh's checks, 6, 13 and 4 of the moved mesh behind them, and the laws of a call that tests its mesh do the rest, with 4 in two places.
 -- A mesh that was accepted and has no panel of zero area once moved is accepted as moved.
 use mathlib.Core.Path.{_≡_, sym, _∙_}
-use mathlib.Core.Logic.{_↔_, _⊎_, inl, inr}
+use mathlib.Core.Logic.{_↔_}
 use mathlib.Core.Bool.{Bool, false, not}
 use mathlib.Core.List.{[], _∷_}
 use Prim.Native.Nat.{ℕ, _*_, _<_, _≤_}
@@ -9,18 +9,17 @@ use borrow.Author.Tests.{leb-true, leb-false, le-leb, lt-leb}
 use lib.Dec.{eqb, leb}
 use lib.ListN.{length-set}
 use lib.Ieee.{Float}
-use Rattle.tri.specs.Quadrature.{quadratureRule, NoSuchRule}
-use Rattle.refusal.specs.Numbers.{noSuchChoice, outputLength, noSuchNode, zeroArea}
+use Rattle.refusal.specs.Numbers.{outputLength, noSuchNode, zeroArea}
 use Rattle.refusal.specs.Checks.{check, first}
 use Rattle.refusal.proofs.Checks.{applies-first}
-use Rattle.mesh.specs.Mesh.{Mesh, nnode, someZeroArea, meshRefusal, maxNodes, maxPanels}
-use Rattle.mesh.specs.Conditions.{ZeroArea, NoZeroArea, Refused4, Accepted}
+use Rattle.mesh.specs.Mesh.{Mesh, nnode, someZeroArea, maxNodes, maxPanels}
+use Rattle.mesh.specs.Conditions.{ZeroArea, NoZeroArea, Accepted}
 use Rattle.refusal.proofs.Tests.{on, differ-off}
-use Rattle.mesh.proofs.Refusals.{numbered, area-on, area-off}
-use Rattle.mesh.proofs.Calls.{call-before, call-behind, call-twice, call-done, call-of-mesh, ruleChecks, rule-passed, rule-stopped}
-use Rattle.node_move.specs.Move.{moved, placeChecks, placeRefusal, moveRefusal, MovedRefused4, MoveNumbered}
+use Rattle.mesh.proofs.Refusals.{area-on, area-off}
+use Rattle.mesh.proofs.Calls.{call-done}
+use Rattle.node_move.specs.Move.{moved, placeChecks, placeRefusal}
 
-moved-accepted : (m : Mesh) (v : ℕ) (x y z : Float) → Accepted maxNodes maxPanels m → NoZeroArea (moved m v x y z) → Accepted maxNodes maxPanels (moved m v x y z)
+pub moved-accepted : (m : Mesh) (v : ℕ) (x y z : Float) → Accepted maxNodes maxPanels m → NoZeroArea (moved m v x y z) → Accepted maxNodes maxPanels (moved m v x y z)
 moved-accepted m v x y z a h =
     let l = length-set (m .xs) v x in
     record {
@@ -35,25 +34,25 @@ module _ (m : Mesh) (size v : ℕ) (x y z : Float) where
   abbrev differs : Bool
   differs = not (eqb size (nnode m * nnode m))
 
-  size-off : (differs ≡ false) ↔ (size ≡ nnode m * nnode m)
+  pub size-off : (differs ≡ false) ↔ (size ≡ nnode m * nnode m)
   size-off = differ-off size (nnode m * nnode m)
 
-  node-off : (leb (nnode m) v ≡ false) ↔ (v < nnode m)
+  pub node-off : (leb (nnode m) v ≡ false) ↔ (v < nnode m)
   node-off = (leb-false (nnode m) v, lt-leb (nnode m) v)
 
   -- ---- the checks behind the mesh's
-  first-6 : (first (placeChecks m size v x y z) ≡ outputLength) ↔ (size ≡ nnode m * nnode m → ⊥)
+  pub first-6 : (first (placeChecks m size v x y z) ≡ outputLength) ↔ (size ≡ nnode m * nnode m → ⊥)
   first-6 =
       let w = applies-first [] outputLength differs (check noSuchNode (leb (nnode m) v) ∷ check zeroArea (someZeroArea (moved m v x y z)) ∷ []) tt tt tt in
       let past = on differs (size ≡ nnode m * nnode m) size-off in
       (λ e. past .0 (w .0 e .1), λ h. w .1 (tt, past .1 h))
 
-  first-13 : (first (placeChecks m size v x y z) ≡ noSuchNode) ↔ ((size ≡ nnode m * nnode m) × (nnode m ≤ v))
+  pub first-13 : (first (placeChecks m size v x y z) ≡ noSuchNode) ↔ ((size ≡ nnode m * nnode m) × (nnode m ≤ v))
   first-13 =
       let w = applies-first (check outputLength differs ∷ []) noSuchNode (leb (nnode m) v) (check zeroArea (someZeroArea (moved m v x y z)) ∷ []) tt tt tt in
       (λ e. let u = w .0 e in (size-off .0 (u .0 .0), leb-true (nnode m) v (u .1)), λ h. w .1 ((size-off .1 (h .0), tt), le-leb (nnode m) v (h .1)))
 
-  first-4 : (first (placeChecks m size v x y z) ≡ zeroArea) ↔ ((size ≡ nnode m * nnode m) × (v < nnode m) × ZeroArea (moved m v x y z))
+  pub first-4 : (first (placeChecks m size v x y z) ≡ zeroArea) ↔ ((size ≡ nnode m * nnode m) × (v < nnode m) × ZeroArea (moved m v x y z))
   first-4 =
       let w = applies-first (check outputLength differs ∷ check noSuchNode (leb (nnode m) v) ∷ []) zeroArea (someZeroArea (moved m v x y z)) [] tt tt tt in
       let area = area-on (moved m v x y z) in (
@@ -70,37 +69,3 @@ module _ (m : Mesh) (size v : ℕ) (x y z : Float) where
         (λ e. let u = w .0 e in (u .1, size-off .0 (u .2 .0), node-off .0 (u .2 .1 .0), moved-accepted m v x y z (u .1) (area .0 (u .2 .1 .1 .0)))),
         λ h. w .1 (tt, h .0, (size-off .1 (h .1), (node-off .1 (h .2), (area .1 (h .3 .no-zero-area), tt)))),
       )
-
-  -- ---- all of them
-  pub move-numbered : (number : ℕ) → MoveNumbered number m size v x y z (moveRefusal (quadratureRule number) m size v x y z)
-  unfolding moveRefusal
-  move-numbered number =
-      let pre = ruleChecks number in
-      let post = placeChecks m size v x y z in
-      let Before : Type 0 = NoSuchRule number → ⊥ in
-      let passed = rule-passed number in
-      let w12 = call-before maxNodes maxPanels m pre post Before passed noSuchChoice tt tt tt in
-      let w6 = call-behind maxNodes maxPanels m pre post Before passed outputLength tt tt tt in
-      let w13 = call-behind maxNodes maxPanels m pre post Before passed noSuchNode tt tt tt in
-      let w4 = call-twice maxNodes maxPanels m pre post Before passed zeroArea tt tt in
-      let w0 = call-done maxNodes maxPanels m pre post Before passed tt tt in
-      let area = area-off (moved m v x y z) in
-      record {
-        is-12 = (λ e. rule-stopped number .0 (w12 .0 e), λ h. w12 .1 (rule-stopped number .1 h));
-        mesh = call-of-mesh maxNodes maxPanels m pre post Before passed tt tt;
-        is-6 = (λ e. let u = w6 .0 e in (u .0, u .1, first-6 .0 (u .2)), λ h. w6 .1 (h .0, h .1, first-6 .1 (h .2)));
-        is-13 = (λ e. let u = w13 .0 e in let q = first-13 .0 (u .2) in (u .0, u .1, q .0, q .1), λ h. w13 .1 (h .0, h .1, first-13 .1 (h .2, h .3)));
-        is-4 = (λ e. let u = w4 .0 e in (u .0, told (u .1)), λ h. w4 .1 (h .0, back (h .1)));
-        is-0 = (
-          (λ e. let u = w0 .0 e in (u .0, u .1, size-off .0 (u .2 .0), node-off .0 (u .2 .1 .0), moved-accepted m v x y z (u .1) (area .0 (u .2 .1 .1 .0)))),
-          λ h. w0 .1 (h .0, h .1, (size-off .1 (h .2), (node-off .1 (h .3), (area .1 (h .4 .no-zero-area), tt)))),
-        );
-      }
-    where
-      told : (meshRefusal maxNodes maxPanels m ≡ zeroArea) ⊎ (Accepted maxNodes maxPanels m × (first (placeChecks m size v x y z) ≡ zeroArea)) → Refused4 maxNodes maxPanels m ⊎ MovedRefused4 m size v x y z
-      told (inl e) = inl (numbered maxNodes maxPanels m .is-4 .0 e)
-      told (inr h) = let q = first-4 .0 (h .1) in inr (h .0, q .0, q .1, q .2)
-
-      back : Refused4 maxNodes maxPanels m ⊎ MovedRefused4 m size v x y z → (meshRefusal maxNodes maxPanels m ≡ zeroArea) ⊎ (Accepted maxNodes maxPanels m × (first (placeChecks m size v x y z) ≡ zeroArea))
-      back (inl h) = inl (numbered maxNodes maxPanels m .is-4 .1 h)
-      back (inr h) = inr (h .0, first-4 .1 (h .1, h .2, h .3))

@@ -1,4 +1,4 @@
 pub mod Overlay
 pub mod Marks
 pub mod Count
-pub mod Bound
+pub mod Theorems

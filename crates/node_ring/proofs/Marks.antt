@@ -7,7 +7,7 @@ use lib.Dec.{eqb}
 use lib.ListN.{length, getD, set, replicate}
 use lib.Seq.{getD-set-same, getD-set-other, lt-length-set}
 use borrow.Author.Tests.{eqb-true, eqb-false}
-use Rattle.lists.specs.Counting.{anyOf, three, someBelow}
+use Rattle.lists.specs.Counting.{anyOf, triple, someBelow}
 use Rattle.lists.proofs.Counting.{some-more}
 use Rattle.mesh.specs.Mesh.{Mesh, triangleIndices}
 use Rattle.scatter.specs.Renewal.{marked, AllBelow}
@@ -23,9 +23,9 @@ one-mark m i a h = go (eqb i a) refl
     go false e = getD-set-other m i a true false (λ w. eqb-false i a e (sym w)) ∙ sym (or-false (marked m a))
 
 pub three-marks : (m : List Bool) (s : List ℕ)
-    → AllBelow (length m) (three s)
+    → AllBelow (length m) (triple s)
     → (a : ℕ)
-    → marked (set (set (set m (getD s 0 0) true) (getD s 1 0) true) (getD s 2 0) true) a ≡ (marked m a || anyOf (same a) (three s))
+    → marked (set (set (set m (getD s 0 0) true) (getD s 1 0) true) (getD s 2 0) true) a ≡ (marked m a || anyOf (same a) (triple s))
 unfolding anyOf
 three-marks m s b a =
     let x = getD s 0 0 in
@@ -46,10 +46,10 @@ three-marks m s b a =
 pub ring-turn : (m : Mesh) (v a p : ℕ) (s : List ℕ) (t u old : Bool)
     → s ≡ triangleIndices m p
     → t ≡ (old || someBelow (joins m (same v) a) p)
-    → u ≡ (t || (anyOf (same v) (three s) && anyOf (same a) (three s)))
+    → u ≡ (t || (anyOf (same v) (triple s) && anyOf (same a) (triple s)))
     → u ≡ (old || someBelow (joins m (same v) a) (p + 1))
 ring-turn m v a p s t u old e h w =
-    let g = subst (λ (l : List ℕ). u ≡ (t || (anyOf (same v) (three l) && anyOf (same a) (three l)))) e w in
+    let g = subst (λ (l : List ℕ). u ≡ (t || (anyOf (same v) (triple l) && anyOf (same a) (triple l)))) e w in
     g
     ∙ ap (λ (b : Bool). b || joins m (same v) a p) h
     ∙ or-assoc old (someBelow (joins m (same v) a) p) (joins m (same v) a p)
@@ -59,10 +59,10 @@ pub ring-start : (m : Mesh) (v a : ℕ) (old : Bool) → old ≡ (old || someBel
 unfolding someBelow
 ring-start m v a old = sym (or-false old)
 
-pub panel-below : (n k : ℕ) (m : Mesh) (p : ℕ) (s : List ℕ) → n ≡ k → AllBelow k (triangleIndices m p) → s ≡ triangleIndices m p → AllBelow n (three s)
+pub panel-below : (n k : ℕ) (m : Mesh) (p : ℕ) (s : List ℕ) → n ≡ k → AllBelow k (triangleIndices m p) → s ≡ triangleIndices m p → AllBelow n (triple s)
 panel-below n k m p s l b e =
     let h = subst (λ (x : ℕ). AllBelow x (triangleIndices m p)) (sym l) b in
-    subst (λ (t : List ℕ). AllBelow n (three t)) (sym e) h
+    subst (λ (t : List ℕ). AllBelow n (triple t)) (sym e) h
 
 pub none-marked : (k a : ℕ) → marked (replicate k false) a ≡ false
 none-marked zero a = refl

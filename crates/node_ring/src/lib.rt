@@ -6,7 +6,7 @@ ghost use mathlib.Core.List.{[]};
 ghost use Prim.Native.Nat.{ℕ, _<_, _≤_, _*_, _-_};
 ghost use lib.ListN.{length};
 ghost use Rattle.lists.specs.Lent.{passed, left};
-ghost use Rattle.lists.specs.Counting.{anyOf, three, countBelow};
+ghost use Rattle.lists.specs.Counting.{anyOf, triple, countBelow};
 ghost use Rattle.mesh.specs.Mesh.{meshOf, node, triangleNodes, someZeroArea, maxNodes, passedMesh, lentMesh};
 ghost use Rattle.mesh.specs.Conditions.{NodeColumnsAlike, PanelColumnsAlike, Below, NoneMissing};
 ghost use Rattle.scatter.specs.Entries.{same};
@@ -122,15 +122,15 @@ pub fn place_refusal(
 
 // One of the nodes of a panel is v.
 fn holds(s: [usize; 3], v: usize) -> bool
-    ensures { λ r. ⌜ r ≡ anyOf (same v) (three s) ⌝ }
+    ensures { λ r. ⌜ r ≡ anyOf (same v) (triple s) ⌝ }
 {
     (s[0] == v) | ((s[1] == v) | (s[2] == v))
 }
 
 // Three marks more.
 fn mark_three(marks: &mut [bool], s: [usize; 3])
-    requires { ⌜ AllBelow (length (now marks)) (three s) ⌝ }
-    ensures { λ _. ⌜ ((a : ℕ) → marked (left marks) a ≡ (marked (passed marks) a || anyOf (same a) (three s))) ⌝ }
+    requires { ⌜ AllBelow (length (now marks)) (triple s) ⌝ }
+    ensures { λ _. ⌜ ((a : ℕ) → marked (left marks) a ≡ (marked (passed marks) a || anyOf (same a) (triple s))) ⌝ }
 {
     marks[s[0]] = true;
     marks[s[1]] = true;
@@ -139,9 +139,9 @@ fn mark_three(marks: &mut [bool], s: [usize; 3])
 
 // The nodes of a panel are marked if it holds v.
 fn mark_panel(marks: &mut [bool], s: [usize; 3], v: usize)
-    requires { ⌜ AllBelow (length (now marks)) (three s) ⌝ }
+    requires { ⌜ AllBelow (length (now marks)) (triple s) ⌝ }
     requires { ⌜ v < length (now marks) ⌝ }
-    ensures { λ _. ⌜ ((a : ℕ) → marked (left marks) a ≡ (marked (passed marks) a || (anyOf (same v) (three s) && anyOf (same a) (three s)))) ⌝ }
+    ensures { λ _. ⌜ ((a : ℕ) → marked (left marks) a ≡ (marked (passed marks) a || (anyOf (same v) (triple s) && anyOf (same a) (triple s)))) ⌝ }
 {
     if holds(s, v) {
         mark_three(marks, s);

@@ -1,4 +1,4 @@
--- Inner form: the numbers that a panel keeps. Each is a definition of the crates below at the panel's corners, so what is made of them is a function of the corners.
+-- Inner form: the numbers of a panel that are cached. Each is a definition of the crates below at the panel's corners, so what is made of them is a function of the corners.
 use mathlib.Core.Path.{_≡_}
 use mathlib.Core.List.{[], _∷_}
 use Rattle.tri.specs.Mapping.{Tri, area}

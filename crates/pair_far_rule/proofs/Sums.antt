@@ -5,7 +5,7 @@ use mathlib.Core.List.{List}
 use Prim.Native.Nat.{ℕ, zero, suc, _<_, _≤_}
 use native.Mathlib.Nat.{eq-or-lt-of-le, le-of-suc-le-suc}
 use native.Mathlib.Omega.{arith}
-use lib.ListN.{length, length-set}
+use lib.ListN.{length, length-set, getD-replicate}
 use lib.Seq.{getD-set-same, getD-set-other}
 use lib.Ieee.{Float, nan}
 use Rattle.binary64.specs.Binary64.{_⊕_, _⊘_, at, plusZero}
@@ -47,14 +47,7 @@ held-length n s t (suc k) = shared-length (heldTo n s t k) (at (t .w) k) (betwee
 
 zero-at : (n : ℕ) (s t : Points) (j : ℕ) → j < 7 → at (heldTo n s t zero) j ≡ plusZero
 unfolding heldTo
-zero-at n s t zero h = refl
-zero-at n s t (suc zero) h = refl
-zero-at n s t (suc (suc zero)) h = refl
-zero-at n s t (suc (suc (suc zero))) h = refl
-zero-at n s t (suc (suc (suc (suc zero)))) h = refl
-zero-at n s t (suc (suc (suc (suc (suc zero))))) h = refl
-zero-at n s t (suc (suc (suc (suc (suc (suc zero)))))) h = refl
-zero-at n s t (suc (suc (suc (suc (suc (suc (suc j))))))) h = absurd (omega arith)
+zero-at n s t j h = getD-replicate 7 j plusZero nan h
 
 pub held-at : (n : ℕ) (s t : Points) (k j : ℕ) → j < n → n ≤ 7 → at (heldTo n s t k) j ≡ sumTo (λ (i : ℕ). at (t .w) i ⊘ between s t i j) k
 unfolding runningSum heldTo

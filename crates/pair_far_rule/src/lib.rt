@@ -1,6 +1,8 @@
 // The far rule with each distance worked out once for both directions.
 use panel_points::Points;
 use panel_points::weighted;
+use point_distances::MAX_PAIRS;
+use tri::quadrature::MAX_POINTS;
 ghost use mathlib.Core.Path.{_≡_};
 ghost use Prim.Native.Nat.{_+_, _≤_};
 ghost use Rattle.lists.specs.Lent.{passed, left};
@@ -9,19 +11,21 @@ ghost use Rattle.lists.specs.Sums.{sumTo};
 ghost use Rattle.panel_points.specs.Points.{pointsAt};
 ghost use Rattle.pair_far_rule.specs.Far as Spec;
 ghost use Rattle.pair_far_rule.specs.Far.{from, shared};
+ghost use Rattle.tri.specs.Quadrature.{maxPoints};
+ghost use Rattle.point_distances.specs.Distances.{maxPairs};
 
 // ---- the sums
 // The potential of points with the weights w at the distances d[start + j]; what a point with the
 // weight v at those distances adds at each of them goes into held.
 fn share_row(
     count: usize,
-    w: [f64; 7],
-    d: &[f64; 49],
+    w: [f64; MAX_POINTS],
+    d: &[f64; MAX_PAIRS],
     start: usize,
     v: f64,
-    held: &mut [f64; 7],
+    held: &mut [f64; MAX_POINTS],
 ) -> f64
-    requires { ⌜ (count ≤ 7) × (start + count ≤ 49) ⌝ }
+    requires { ⌜ (count ≤ maxPoints) × (start + count ≤ maxPairs) ⌝ }
     ensures { λ r. ⌜ (r ≡ sumTo (λ j. at w j ⊘ from (passed d) start j) count) × (left held ≡ shared (passed held) v (from (passed d) start) count) ⌝ }
 {
     let mut out = 0.0;
@@ -51,11 +55,11 @@ fn far_one(s: Points, t: Points) -> f64
 }
 
 // Half the sum of the two directions over all distances, of the weights of both.
-fn far_sums(count: usize, w: [f64; 7], pw: [f64; 7], d: &[f64; 49]) -> f64
-    requires { ⌜ count ≤ 7 ⌝ }
+fn far_sums(count: usize, w: [f64; MAX_POINTS], pw: [f64; MAX_POINTS], d: &[f64; MAX_PAIRS]) -> f64
+    requires { ⌜ count ≤ maxPoints ⌝ }
     ensures { λ r. ⌜ r ≡ Spec.farBy count w pw (passed d) ⌝ }
 {
-    let mut held = [0.0; 7];
+    let mut held = [0.0; MAX_POINTS];
     let mut out = 0.0;
     for i in 0..count {
         out += pw[i] * share_row(count, w, d, i * count, pw[i], &mut held);
@@ -66,26 +70,26 @@ fn far_sums(count: usize, w: [f64; 7], pw: [f64; 7], d: &[f64; 49]) -> f64
 // Half the sum of the two directions, by all distances at once.
 fn far_many(
     count: usize,
-    x: [f64; 7],
-    y: [f64; 7],
-    z: [f64; 7],
-    w: [f64; 7],
-    px: [f64; 7],
-    py: [f64; 7],
-    pz: [f64; 7],
-    pw: [f64; 7],
+    x: [f64; MAX_POINTS],
+    y: [f64; MAX_POINTS],
+    z: [f64; MAX_POINTS],
+    w: [f64; MAX_POINTS],
+    px: [f64; MAX_POINTS],
+    py: [f64; MAX_POINTS],
+    pz: [f64; MAX_POINTS],
+    pw: [f64; MAX_POINTS],
 ) -> f64
-    requires { ⌜ count ≤ 7 ⌝ }
+    requires { ⌜ count ≤ maxPoints ⌝ }
     ensures { λ r. ⌜ r ≡ Spec.farShared count (pointsAt x y z w) (pointsAt px py pz pw) ⌝ }
 {
-    let mut d = [0.0; 49];
+    let mut d = [0.0; MAX_PAIRS];
     point_distances::distances(&px, &py, &pz, &x, &y, &z, count, &mut d);
     far_sums(count, w, pw, &d)
 }
 
 // Half the sum of the two directions.
 pub fn far_coupling(count: usize, s: Points, t: Points) -> f64
-    requires { ⌜ count ≤ 7 ⌝ }
+    requires { ⌜ count ≤ maxPoints ⌝ }
     ensures { λ r. ⌜ r ≡ Spec.farShared count s t ⌝ }
 {
     if count == 1 {

@@ -16,7 +16,7 @@ use lib.Ieee.Order.{round-mono}
 use lib.Ieee.Positive.{above-of-le, le→cross}
 use Rattle.binary64.specs.Binary64.{_⊖_, _⊗_, at}
 use Rattle.binary64.specs.Operations.{fmaFin, root, rootOf, squareRoot}
-use Rattle.square_root.proofs.Floor.{root-floor}
+use Rattle.binary64.proofs.Root.Floor.{root-floor}
 use Rattle.ieee754.specs.Ieee754.{fma, sqrt}
 use Rattle.math.specs.Math.{Vec, dot3, norm3, sub3}
 use Rattle.tri.specs.Mapping.{Tri, corner}

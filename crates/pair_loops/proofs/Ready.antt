@@ -6,7 +6,7 @@ use Prim.Native.Nat.{ℕ, _≤_}
 use native.Mathlib.Nat.{lt-of-lt-of-le}
 use lib.ListN.{length}
 use lib.Ieee.{Float}
-use Rattle.lists.specs.Counting.{three}
+use Rattle.lists.specs.Counting.{triple}
 use Rattle.mesh.specs.Mesh.{Mesh, nnode, triangleIndices}
 use Rattle.mesh.specs.Conditions.{Below}
 use Rattle.scatter.specs.Renewal.{AllBelow}
@@ -23,9 +23,9 @@ ready-now m old out marks w e = record {
 }
 
 -- the nodes of a panel, read into an array, are below k where the node count is
-pub panel-below : (m : Mesh) (i k : ℕ) (s : List ℕ) → Below m i → nnode m ≤ k → s ≡ triangleIndices m i → AllBelow k (three s)
+pub panel-below : (m : Mesh) (i k : ℕ) (s : List ℕ) → Below m i → nnode m ≤ k → s ≡ triangleIndices m i → AllBelow k (triple s)
 panel-below m i k s b h e =
-    subst (λ (t : List ℕ). AllBelow k (three t)) (sym e) (lt-of-lt-of-le (b .below0) h, (lt-of-lt-of-le (b .below1) h, (lt-of-lt-of-le (b .below2) h, tt)))
+    subst (λ (t : List ℕ). AllBelow k (triple t)) (sym e) (lt-of-lt-of-le (b .below0) h, (lt-of-lt-of-le (b .below1) h, (lt-of-lt-of-le (b .below2) h, tt)))
 
 pub indices-marked : (m : Mesh) (out : List Float) (marks : List Bool) → Ready m out marks → IndicesBelow (length marks) m
 indices-marked m out marks w = λ i l. panel-below m i (length marks) (triangleIndices m i) (w .none-missing i l) (w .sized .enough) refl

@@ -7,7 +7,7 @@ use lib.Ieee.{Float}
 use Rattle.mesh.specs.Mesh.{Mesh, nnode, ntri, maxPanels}
 use Rattle.mesh.specs.Conditions.{NodeColumnsAlike, PanelColumnsAlike, NoneMissing}
 use Rattle.scatter.specs.Renewal.{Sized, marked}
-use Rattle.scatter.specs.Links.{Linked}
+use Rattle.scatter.specs.Links.{LinksNext}
 use Rattle.scatter.specs.Flags.{Flagged}
 
 -- columns of one length, not too many panels, every index below the node count, a matrix of the nodes and a mark for each
@@ -23,4 +23,4 @@ pub record Scanned (m : Mesh) (marks flags : List Bool) (links : List ℕ) : Typ
   pub flags-long : ntri m ≤ length flags
   pub links-long : ntri m ≤ length links
   pub flagged : Flagged (ntri m) m marks flags
-  pub linked : Linked 0 (marked flags) (ntri m) links
+  pub linked : LinksNext 0 (marked flags) (ntri m) links

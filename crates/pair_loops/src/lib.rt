@@ -1,5 +1,5 @@
-// The nest of loops over pairs of panels: every addition that names a marked node, in program order. It
-// serves the assembly, with every node marked, and a move, with the ring of the moved node marked.
+// The loops over pairs of panels: every addition that names a marked node, in program order. They
+// serve the assembly, with every node marked, and a move, with the ring of the moved node marked.
 ghost use mathlib.Core.Path.{_≡_};
 ghost use Prim.Native.Nat.{_<_, _≤_};
 ghost use lib.ListN.{length};
@@ -7,7 +7,7 @@ ghost use Rattle.lists.specs.Lent.{passed, left};
 ghost use Rattle.mesh.specs.Mesh.{triangleNodes, passedMesh, lentMesh};
 ghost use Rattle.coupling.specs.Block.{mutualInductanceBlock};
 ghost use Rattle.pair.specs.Pair.{panelNumbers, sourceNumbers};
-ghost use Rattle.cached_panels.specs.Kept.{Filled};
+ghost use Rattle.cached_panels.specs.Cache.{AllCached};
 ghost use Rattle.pair_loops.specs.Additions.{pairEntries, targetsFrom, sourceEntries, entries, addedTo};
 ghost use Rattle.pair_loops.specs.Ready.{Ready, Scanned};
 use pair::Source;
@@ -24,20 +24,20 @@ fn add_pair(
     t1: &[usize],
     t2: &[usize],
     marks: &[bool],
-    kept: &[f64],
+    cache: &[f64],
     out: &mut [f64],
     i: usize,
     j: usize,
 )
     requires { ⌜ Ready (lentMesh x y z t0 t1 t2) (now out) (now marks) ⌝ }
-    requires { ⌜ Filled (lentMesh x y z t0 t1 t2) (now kept) ⌝ }
+    requires { ⌜ AllCached (lentMesh x y z t0 t1 t2) (now cache) ⌝ }
     requires { ⌜ (i < length (now t0)) × (j < length (now t0)) ⌝ }
     requires { ⌜ source ≡ sourceNumbers kind (panelNumbers (triangleNodes (lentMesh x y z t0 t1 t2) i)) ⌝ }
     ensures { λ _. ⌜ left out ≡ addedTo (passed marks) (passedMesh x y z t0 t1 t2) (passed out) (λ m. pairEntries (mutualInductanceBlock kind) m i j) ⌝ }
 {
     let s = mesh::triangle_indices(t0, t1, t2, i);
     let t = mesh::triangle_indices(t0, t1, t2, j);
-    let target = cached_panels::kept_panel(x, y, z, t0, t1, t2, kept, j);
+    let target = cached_panels::cached_panel(x, y, z, t0, t1, t2, cache, j);
     let b = pair::pair_block(kind, source, target);
     scatter::scatter_pair(out, x.len(), marks, s, t, b, i == j);
 }
@@ -56,21 +56,21 @@ fn add_targets(
     marks: &[bool],
     flags: &[bool],
     links: &[usize],
-    kept: &[f64],
+    cache: &[f64],
     out: &mut [f64],
     i: usize,
     first: usize,
 )
     requires { ⌜ Ready (lentMesh x y z t0 t1 t2) (now out) (now marks) ⌝ }
     requires { ⌜ Scanned (lentMesh x y z t0 t1 t2) (now marks) (now flags) (now links) ⌝ }
-    requires { ⌜ Filled (lentMesh x y z t0 t1 t2) (now kept) ⌝ }
+    requires { ⌜ AllCached (lentMesh x y z t0 t1 t2) (now cache) ⌝ }
     requires { ⌜ i ≤ first ⌝ }
     requires { ⌜ source ≡ sourceNumbers kind (panelNumbers (triangleNodes (lentMesh x y z t0 t1 t2) i)) ⌝ }
     ensures { λ _. ⌜ left out ≡ addedTo (passed marks) (passedMesh x y z t0 t1 t2) (passed out) (λ m. targetsFrom (mutualInductanceBlock kind) m i first) ⌝ }
 {
     let mut j = first;
     while j < t0.len() {
-        add_pair(kind, source, x, y, z, t0, t1, t2, marks, kept, out, i, j);
+        add_pair(kind, source, x, y, z, t0, t1, t2, marks, cache, out, i, j);
         j = scatter::next_named(flags, links, t0.len(), i, j + 1);
     }
 }
@@ -87,20 +87,20 @@ fn add_source(
     marks: &[bool],
     flags: &[bool],
     links: &[usize],
-    kept: &[f64],
+    cache: &[f64],
     out: &mut [f64],
     i: usize,
     first: usize,
 )
     requires { ⌜ Ready (lentMesh x y z t0 t1 t2) (now out) (now marks) ⌝ }
     requires { ⌜ Scanned (lentMesh x y z t0 t1 t2) (now marks) (now flags) (now links) ⌝ }
-    requires { ⌜ Filled (lentMesh x y z t0 t1 t2) (now kept) ⌝ }
+    requires { ⌜ AllCached (lentMesh x y z t0 t1 t2) (now cache) ⌝ }
     requires { ⌜ i ≤ first ⌝ }
     ensures { λ _. ⌜ left out ≡ addedTo (passed marks) (passedMesh x y z t0 t1 t2) (passed out) (λ m. targetsFrom (mutualInductanceBlock kind) m i first) ⌝ }
 {
     let j = scatter::next_named(flags, links, t0.len(), i, first);
     if j < t0.len() {
-        let panel = cached_panels::kept_panel(x, y, z, t0, t1, t2, kept, i);
+        let panel = cached_panels::cached_panel(x, y, z, t0, t1, t2, cache, i);
         let source = pair::source_numbers(kind, panel);
         add_targets(
             kind,
@@ -114,7 +114,7 @@ fn add_source(
             marks,
             flags,
             links,
-            kept,
+            cache,
             out,
             i,
             j,
@@ -134,13 +134,13 @@ fn add_sources(
     marks: &[bool],
     flags: &[bool],
     links: &[usize],
-    kept: &[f64],
+    cache: &[f64],
     out: &mut [f64],
     count: usize,
 )
     requires { ⌜ Ready (lentMesh x y z t0 t1 t2) (now out) (now marks) ⌝ }
     requires { ⌜ Scanned (lentMesh x y z t0 t1 t2) (now marks) (now flags) (now links) ⌝ }
-    requires { ⌜ Filled (lentMesh x y z t0 t1 t2) (now kept) ⌝ }
+    requires { ⌜ AllCached (lentMesh x y z t0 t1 t2) (now cache) ⌝ }
     ensures { λ _. ⌜ left out ≡ addedTo (passed marks) (passedMesh x y z t0 t1 t2) (passed out) (λ m. sourceEntries (mutualInductanceBlock kind) m 0 count) ⌝ }
 {
     let mut i = 0;
@@ -158,7 +158,7 @@ fn add_sources(
             marks,
             flags,
             links,
-            kept,
+            cache,
             out,
             i,
             first,
@@ -187,8 +187,8 @@ pub fn add_all(
 {
     let sources = t0.len();
     if scatter::next_named(flags, links, t0.len(), 0, 0) < t0.len() {
-        let mut kept = cached_panels::room();
-        cached_panels::keep_panels(x, y, z, t0, t1, t2, &mut kept);
+        let mut cache = cached_panels::room();
+        cached_panels::cache_panels(x, y, z, t0, t1, t2, &mut cache);
         add_sources(
             kind,
             x,
@@ -200,7 +200,7 @@ pub fn add_all(
             marks,
             flags,
             links,
-            &kept,
+            &cache,
             out,
             sources,
         );

@@ -1,1 +1,1 @@
-pub mod Ties
+pub mod Theorems

@@ -13,19 +13,14 @@ use Rattle.refusal.specs.Checks.{check, first}
 use Rattle.refusal.proofs.Checks.{none-applies, first-stopped, first-passed}
 use Rattle.mesh.specs.Conditions.{WithinLimits}
 use Rattle.mesh.specs.Mesh.{nnode, ntri, passesLimits, someMissesNode, someZeroArea}
-use Rattle.refusal.proofs.Tests.{or-off}
+use Rattle.refusal.proofs.Tests.{or-off, differ-off}
+use Rattle.lists.proofs.Columns.{columns-off}
 use Rattle.mesh.proofs.Refusals.{limits-off as mesh-limits}
-use Rattle.panel_file.specs.Conditions.{Marked, LengthDue, ColumnsDue}
+use Rattle.panel_file.specs.Conditions.{Marked, LengthDue, MeshColumnsDue}
 use Rattle.panel_file.proofs.Numbers.{bound}
 use Rattle.panel_file.proofs.Decoded.{nodes, panels}
 use Rattle.panel_file.specs.LittleEndian.{littleEndian}
-use Rattle.panel_file.specs.PanelFile.{version, header, lengthDue, nodeCount, panelCount, decode, Bytes, marksDiffer, lengthDiffers, fileChecks, fileRefusal, columnsDiffer, Lengths, outputsDiffer, readRefusal, Holds}
-
-equal : (a b : ℕ) → not (eqb a b) ≡ false → a ≡ b
-equal a b e = eqb-true a b (not-false (eqb a b) e)
-
-alike : (a b : ℕ) → a ≡ b → not (eqb a b) ≡ false
-alike a b e = ap not (eq-eqb a b e)
+use Rattle.panel_file.specs.PanelFile.{version, header, lengthDue, nodeCount, panelCount, decode, Bytes, marksDiffer, lengthDiffers, fileChecks, fileRefusal, Lengths, meshColumnsDiffer, readRefusal, Holds}
 
 pub marked : (b : List ℕ) → marksDiffer b ≡ false → Marked b
 unfolding marksDiffer
@@ -34,11 +29,11 @@ marked b e =
     let o0 = or-off (not (eqb (getD b 0 0) 80)) _ (o .1) in
     let o1 = or-off (not (eqb (getD b 1 0) 78)) _ (o0 .1) in
     let o2 = or-off (not (eqb (getD b 2 0) 76)) (not (eqb (littleEndian 2 b 3) version)) (o1 .1) in
-    record { room = ltb-false (length b) header (o .0); P = equal _ _ (o0 .0); N = equal _ _ (o1 .0); L = equal _ _ (o2 .0); versioned = equal _ _ (o2 .1) }
+    record { room = ltb-false (length b) header (o .0); P = differ-off _ _ .0 (o0 .0); N = differ-off _ _ .0 (o1 .0); L = differ-off _ _ .0 (o2 .0); versioned = differ-off _ _ .0 (o2 .1) }
 
 pub marks-off : (b : List ℕ) → (marksDiffer b ≡ false) ↔ Marked b
 unfolding marksDiffer
-marks-off b = (marked b, λ h. rw (le-ltb (length b) header (h .room), alike _ _ (h .P), alike _ _ (h .N), alike _ _ (h .L), alike _ _ (h .versioned)))
+marks-off b = (marked b, λ h. rw (le-ltb (length b) header (h .room), differ-off _ _ .1 (h .P), differ-off _ _ .1 (h .N), differ-off _ _ .1 (h .L), differ-off _ _ .1 (h .versioned)))
 
 pub limits-off : (n p : ℕ) (b : List ℕ) → (passesLimits n p (nodeCount b) (panelCount b) ≡ false) ↔ WithinLimits n p (decode b)
 limits-off n p b =
@@ -68,7 +63,7 @@ length-due extra b e = eqb-true (length b) _ (not-false _ e)
 
 pub due-off : (extra : ℕ) (b : List ℕ) → (lengthDiffers extra b ≡ false) ↔ LengthDue extra b
 unfolding lengthDiffers
-due-off extra b = (length-due extra b, λ h. alike _ _ h)
+due-off extra b = (length-due extra b, λ h. differ-off _ _ .1 h)
 
 pub holds : (extra : ℕ) (b : List ℕ) (n p : ℕ) → n ≡ nodeCount b → p ≡ panelCount b → n < 2 ^ 16 → p < 2 ^ 16 → lengthDiffers extra b ≡ false → Holds n b
 unfolding lengthDue
@@ -101,31 +96,19 @@ pub file-stopped : (n p : ℕ) (b : List ℕ) (l : Lengths) (r : ℕ) → r ≡ 
 unfolding fileRefusal readRefusal
 file-stopped n p b l r e h = e ∙ sym (first-stopped (fileChecks n p 0 b) _ (λ z. h (e ∙ z)))
 
-pub file-passed : (n p : ℕ) (b : List ℕ) (l : Lengths) → fileRefusal n p 0 b ≡ 0 → readRefusal n p b l ≡ first (check outputLength (outputsDiffer b l) ∷ [])
+pub file-passed : (n p : ℕ) (b : List ℕ) (l : Lengths) → fileRefusal n p 0 b ≡ 0 → readRefusal n p b l ≡ first (check outputLength (meshColumnsDiffer b l) ∷ [])
 unfolding fileRefusal fileChecks readRefusal
 file-passed n p b l e = first-passed (fileChecks n p 0 b) _ (none-applies (fileChecks n p 0 b) tt .0 e)
 
-columns : (n a b c : ℕ) → columnsDiffer n a b c ≡ false → (a ≡ n) × (b ≡ n) × (c ≡ n)
-unfolding columnsDiffer
-columns n a b c e =
-    let o = or-off _ _ e in
-    let q = or-off _ _ (o .1) in
-    (equal a n (o .0), equal b n (q .0), equal c n (q .1))
-
-pub outputs-off : (b : List ℕ) (l : Lengths) → (outputsDiffer b l ≡ false) ↔ ColumnsDue b l
-unfolding columnsDiffer
-outputs-off b l = (to, λ h. rw (alike _ _ (h .x), alike _ _ (h .y), alike _ _ (h .z), alike _ _ (h .t0), alike _ _ (h .t1), alike _ _ (h .t2)))
-  where
-    to : outputsDiffer b l ≡ false → ColumnsDue b l
-    to e =
-        let o = or-off _ _ e in
-        let i = columns (nodeCount b) (l .x) (l .y) (l .z) (o .0) in
-        let j = columns (panelCount b) (l .t0) (l .t1) (l .t2) (o .1) in
-        record { x = i .0; y = i .1; z = i .2; t0 = j .0; t1 = j .1; t2 = j .2 }
+pub mesh-columns-off : (b : List ℕ) (l : Lengths) → (meshColumnsDiffer b l ≡ false) ↔ MeshColumnsDue b l
+mesh-columns-off b l =
+    let n = columns-off (nodeCount b) (l .x) (l .y) (l .z) in
+    let p = columns-off (panelCount b) (l .t0) (l .t1) (l .t2) in
+    (λ e. let o = or-off _ _ e in record { nodes = n .0 (o .0); panels = p .0 (o .1) }, λ h. rw (n .1 (h .nodes), p .1 (h .panels)))
 
 -- a call that goes on: the file's length is due and the columns are of its counts
-pub ready : (n p : ℕ) (b : List ℕ) (l : Lengths) → readRefusal n p b l ≡ 0 → (lengthDiffers 0 b ≡ false) × ColumnsDue b l
+pub ready : (n p : ℕ) (b : List ℕ) (l : Lengths) → readRefusal n p b l ≡ 0 → (lengthDiffers 0 b ≡ false) × MeshColumnsDue b l
 unfolding readRefusal fileRefusal fileChecks
 ready n p b l e =
-    let v = none-applies (fileChecks n p 0 b ++ check outputLength (outputsDiffer b l) ∷ []) tt .0 e in
-    (v .1 .1 .0, outputs-off b l .0 (v .1 .1 .1 .1 .1 .0))
+    let v = none-applies (fileChecks n p 0 b ++ check outputLength (meshColumnsDiffer b l) ∷ []) tt .0 e in
+    (v .1 .1 .0, mesh-columns-off b l .0 (v .1 .1 .1 .1 .1 .0))

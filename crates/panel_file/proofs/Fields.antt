@@ -44,7 +44,7 @@ unfolding toLittleEndian
 field-length zero n = refl
 field-length (suc w) n = ap suc (field-length w (n / 256))
 
-pub field-at : (w : ℕ) (b : List ℕ) (i n : ℕ) (r : List ℕ) → n < 256 ^ w → drop i b ≡ toLittleEndian w n ++ r → littleEndian w b i ≡ n
+field-at : (w : ℕ) (b : List ℕ) (i n : ℕ) (r : List ℕ) → n < 256 ^ w → drop i b ≡ toLittleEndian w n ++ r → littleEndian w b i ≡ n
 field-at w b i n r h e =
     let l : 0 + w ≤ length (toLittleEndian w n) = omega (arith, field-length w n) in
     ap (littleEndian w b) (sym (add-zero i)) ∙ dropped w b i 0 ∙ ap (λ (x : List ℕ). littleEndian w x 0) e ∙ within w (toLittleEndian w n) r 0 l ∙ own w n h

@@ -5,7 +5,6 @@ use mathlib.Core.Logic.{_↔_}
 use mathlib.Core.List.{List, [], _∷_, _++_}
 use Prim.Native.Nat.{ℕ}
 use lib.Dec.{T}
-use Rattle.refusal.specs.Numbers.{outputLength}
 use Rattle.refusal.specs.Checks.{Check, check, first, Clear, lacks}
 use Rattle.refusal.proofs.Checks.{none-applies, applies-first}
 use Rattle.mesh.specs.Conditions.{Accepted}
@@ -13,25 +12,25 @@ use Rattle.lists.proofs.Filling.{tabulate-length}
 use Rattle.mesh.specs.Mesh.{someMissesNode, someZeroArea, passesLimits}
 use Rattle.refusal.proofs.Tests.{on}
 use Rattle.mesh.proofs.Refusals.{missing-off, missing-on, area-off, area-on}
-use Rattle.panel_file.specs.PanelFile.{nodeCount, panelCount, coordinate, index, decode, marksDiffer, lengthDiffers, fileChecks, fileRefusal, Lengths, outputsDiffer, readRefusal}
-use Rattle.panel_file.specs.Conditions.{AcceptedFile, FileNumbered, FileTestNumbered, ReadNumbered}
+use Rattle.panel_file.specs.PanelFile.{nodeCount, panelCount, coordinate, index, decode, marksDiffer, lengthDiffers, fileChecks, fileRefusal}
+use Rattle.panel_file.specs.Conditions.{AcceptedFile, FileNumbered, FileTestNumbered}
 use Rattle.panel_file.proofs.Decoded.{nodes, panels}
-use Rattle.panel_file.proofs.Accepted.{marks-off, limits-off, due-off, outputs-off}
+use Rattle.panel_file.proofs.Accepted.{marks-off, limits-off, due-off}
 
 module _ (n p extra : ℕ) (b : List ℕ) where
-  abbrev c14 : Check
+  abbrev pub c14 : Check
   c14 = check 14 (marksDiffer b)
 
-  abbrev c11 : Check
+  abbrev pub c11 : Check
   c11 = check 11 (passesLimits n p (nodeCount b) (panelCount b))
 
-  abbrev c15 : Check
+  abbrev pub c15 : Check
   c15 = check 15 (lengthDiffers extra b)
 
-  abbrev c3 : Check
+  abbrev pub c3 : Check
   c3 = check 3 (someMissesNode (decode b))
 
-  abbrev c4 : Check
+  abbrev pub c4 : Check
   c4 = check 4 (someZeroArea (decode b))
 
   pub file-numbered : (ds : List Check) → T (lacks 14 ds) → T (lacks 11 ds) → T (lacks 15 ds) → T (lacks 3 ds) → T (lacks 4 ds) → FileNumbered n p extra b (first (fileChecks n p extra b ++ ds))
@@ -63,7 +62,7 @@ module _ (n p extra : ℕ) (b : List ℕ) where
         );
       }
 
-  accepted : Clear (c14 ∷ c11 ∷ c15 ∷ c3 ∷ c4 ∷ []) → AcceptedFile n p extra b
+  pub accepted : Clear (c14 ∷ c11 ∷ c15 ∷ c3 ∷ c4 ∷ []) → AcceptedFile n p extra b
   accepted v =
       record {
         marked = marks-off b .0 (v .0);
@@ -73,7 +72,7 @@ module _ (n p extra : ℕ) (b : List ℕ) where
         no-zero-area = area-off (decode b) .0 (v .1 .1 .1 .1 .0);
       }
 
-  cleared : AcceptedFile n p extra b → Clear (c14 ∷ c11 ∷ c15 ∷ c3 ∷ c4 ∷ [])
+  pub cleared : AcceptedFile n p extra b → Clear (c14 ∷ c11 ∷ c15 ∷ c3 ∷ c4 ∷ [])
   cleared h = (marks-off b .1 (h .marked), (limits-off n p b .1 (h .limits), (due-off extra b .1 (h .long), (missing-off (decode b) .1 (h .none-missing), (area-off (decode b) .1 (h .no-zero-area), tt)))))
 
   -- a file that is not refused holds an accepted mesh
@@ -98,20 +97,3 @@ module _ (n p extra : ℕ) (b : List ℕ) where
 pub file-test-numbered : (n p extra : ℕ) (b : List ℕ) → FileTestNumbered n p extra b (fileRefusal n p extra b)
 unfolding fileRefusal fileChecks
 file-test-numbered n p extra b = record { file = file-numbered n p extra b [] tt tt tt tt tt; is-0 = file-accepted n p extra b }
-
-pub read-numbered : (n p : ℕ) (b : List ℕ) (l : Lengths) → ReadNumbered n p b l (readRefusal n p b l)
-unfolding readRefusal fileChecks
-read-numbered n p b l =
-    let cs = c14 n p 0 b ∷ c11 n p 0 b ∷ c15 n p 0 b ∷ c3 n p 0 b ∷ c4 n p 0 b ∷ [] in
-    let c6 = check outputLength (outputsDiffer b l) in
-    let o = outputs-off b l in
-    let w6 = applies-first cs 6 (c6 .applies) [] tt tt tt in
-    let w0 = none-applies (c14 n p 0 b ∷ c11 n p 0 b ∷ c15 n p 0 b ∷ c3 n p 0 b ∷ c4 n p 0 b ∷ c6 ∷ []) tt in
-    record {
-      file = file-numbered n p 0 b (c6 ∷ []) tt tt tt tt tt;
-      is-6 = (λ e. let v = w6 .0 e in (accepted n p 0 b (v .0), on _ _ o .0 (v .1)), λ h. w6 .1 (cleared n p 0 b (h .0), on _ _ o .1 (h .1)));
-      is-0 = (
-        (λ e. let v = w0 .0 e in (accepted n p 0 b (v .0, (v .1 .0, (v .1 .1 .0, (v .1 .1 .1 .0, (v .1 .1 .1 .1 .0, tt))))), o .0 (v .1 .1 .1 .1 .1 .0))),
-        λ h. let v = cleared n p 0 b (h .0) in w0 .1 (v .0, (v .1 .0, (v .1 .1 .0, (v .1 .1 .1 .0, (v .1 .1 .1 .1 .0, (o .1 (h .1), tt)))))),
-      );
-    }

@@ -4,6 +4,7 @@ use mathlib.Core.Logic.{_↔_}
 use mathlib.Core.List.{List}
 use Prim.Native.Nat.{ℕ, _≤_}
 use lib.ListN.{length, getD}
+use Rattle.lists.specs.Columns.{ColumnsDue}
 use Rattle.mesh.specs.Conditions.{WithinLimits, MissingNode, NoneMissing, ZeroArea, NoZeroArea}
 use Rattle.panel_file.specs.LittleEndian.{littleEndian}
 use Rattle.panel_file.specs.PanelFile.{version, header, lengthDue, nodeCount, panelCount, decode, Lengths}
@@ -21,13 +22,9 @@ abbrev pub LengthDue : ℕ → List ℕ → Type 0
 LengthDue extra b = length b ≡ lengthDue extra (nodeCount b) (panelCount b)
 
 -- not 6
-pub record ColumnsDue (b : List ℕ) (l : Lengths) : Type 0 where
-  pub x : l .x ≡ nodeCount b
-  pub y : l .y ≡ nodeCount b
-  pub z : l .z ≡ nodeCount b
-  pub t0 : l .t0 ≡ panelCount b
-  pub t1 : l .t1 ≡ panelCount b
-  pub t2 : l .t2 ≡ panelCount b
+pub record MeshColumnsDue (b : List ℕ) (l : Lengths) : Type 0 where
+  pub nodes : ColumnsDue (nodeCount b) (l .x) (l .y) (l .z)
+  pub panels : ColumnsDue (panelCount b) (l .t0) (l .t1) (l .t2)
 
 -- none of the file's five
 pub record AcceptedFile (maxNodes maxPanels extra : ℕ) (b : List ℕ) : Type 0 where
@@ -53,5 +50,5 @@ pub record FileTestNumbered (maxNodes maxPanels extra : ℕ) (b : List ℕ) (r :
 -- the reader's number
 pub record ReadNumbered (maxNodes maxPanels : ℕ) (b : List ℕ) (l : Lengths) (r : ℕ) : Type 0 where
   pub file : FileNumbered maxNodes maxPanels 0 b r
-  pub is-6 : (r ≡ 6) ↔ (AcceptedFile maxNodes maxPanels 0 b × (ColumnsDue b l → ⊥))
-  pub is-0 : (r ≡ 0) ↔ (AcceptedFile maxNodes maxPanels 0 b × ColumnsDue b l)
+  pub is-6 : (r ≡ 6) ↔ (AcceptedFile maxNodes maxPanels 0 b × (MeshColumnsDue b l → ⊥))
+  pub is-0 : (r ≡ 0) ↔ (AcceptedFile maxNodes maxPanels 0 b × MeshColumnsDue b l)

@@ -7,6 +7,7 @@ use lib.Dec.{T, ltb, eqb}
 use lib.ListN.{length, getD}
 use lib.Ieee.{Float, binary64, fits, nanBits, toBits}
 use Rattle.binary64.specs.Binary64.{bits, at}
+use Rattle.lists.specs.Columns.{columnsDiffer}
 use Rattle.lists.specs.Filling.{tabulate}
 use Rattle.refusal.specs.Numbers.{fileMark, fileLength, tooLarge, missingNode, zeroArea, outputLength}
 use Rattle.refusal.specs.Checks.{Check, check, first, after}
@@ -116,10 +117,6 @@ fileChecks maxNodes maxPanels extra b =
 unfoldable pub fileRefusal : ℕ → ℕ → ℕ → List ℕ → ℕ
 fileRefusal maxNodes maxPanels extra b = first (fileChecks maxNodes maxPanels extra b)
 
--- 6: columns that are not of the file's counts
-unfoldable pub columnsDiffer : ℕ → ℕ → ℕ → ℕ → Bool
-columnsDiffer n a b c = not (eqb a n) || (not (eqb b n) || not (eqb c n))
-
 -- the lengths of the six lent columns
 pub record Lengths : Type 0 where
   pub x : ℕ
@@ -135,12 +132,12 @@ lengths x y z a b c = record { x = x; y = y; z = z; t0 = a; t1 = b; t2 = c }
 abbrev pub lengthsOf : Mesh → Lengths
 lengthsOf m = lengths (length (m .xs)) (length (m .ys)) (length (m .zs)) (length (m .t0)) (length (m .t1)) (length (m .t2))
 
--- 6, of all six
-abbrev pub outputsDiffer : List ℕ → Lengths → Bool
-outputsDiffer b l = columnsDiffer (nodeCount b) (l .x) (l .y) (l .z) || columnsDiffer (panelCount b) (l .t0) (l .t1) (l .t2)
+-- 6: columns that are not of the file's counts
+abbrev pub meshColumnsDiffer : List ℕ → Lengths → Bool
+meshColumnsDiffer b l = columnsDiffer (nodeCount b) (l .x) (l .y) (l .z) || columnsDiffer (panelCount b) (l .t0) (l .t1) (l .t2)
 
 unfoldable pub readRefusal : ℕ → ℕ → List ℕ → Lengths → ℕ
-readRefusal maxNodes maxPanels b l = first (fileChecks maxNodes maxPanels 0 b ++ check outputLength (outputsDiffer b l) ∷ [])
+readRefusal maxNodes maxPanels b l = first (fileChecks maxNodes maxPanels 0 b ++ check outputLength (meshColumnsDiffer b l) ∷ [])
 
 -- ---- what is known of a file once its length is tested
 -- n is the file's count, and nodes and panels stand within it

@@ -193,13 +193,6 @@ pub fn file_refusal(nodes: usize, panels: usize, extra: usize, bytes: &[u8]) -> 
     0
 }
 
-// 6, of three columns
-fn columns_differ(n: usize, a: usize, b: usize, c: usize) -> bool
-    ensures { λ r. ⌜ r ≡ Spec.columnsDiffer n a b c ⌝ }
-{
-    (a != n) | ((b != n) | (c != n))
-}
-
 // Coordinate 0, 1 or 2 of every node.
 fn fill_coordinates(bytes: &[u8], axis: usize, out: &mut [f64])
     requires { ⌜ Holds (length (now out)) (now bytes) × (axis ≤ 2) ⌝ }
@@ -242,8 +235,8 @@ fn read_refusal(
     if refusal != 0 {
         return refusal;
     }
-    let n = columns_differ(node_count(bytes), x, y, z);
-    let p = columns_differ(panel_count(bytes), t0, t1, t2);
+    let n = lists::columns_differ(node_count(bytes), x, y, z);
+    let p = lists::columns_differ(panel_count(bytes), t0, t1, t2);
     if n | p {
         return refusal::OUTPUT_LENGTH;
     }

@@ -21,7 +21,7 @@ unfolding seven
 seven-length g zero = refl
 seven-length g (suc k) = length-set (seven g k) k (g k) ∙ seven-length g k
 
-pub seven-at : (g : ℕ → Float) (k j : ℕ) → j < k → k ≤ 7 → at (seven g k) j ≡ g j
+seven-at : (g : ℕ → Float) (k j : ℕ) → j < k → k ≤ 7 → at (seven g k) j ≡ g j
 unfolding seven
 seven-at g zero j h m = absurd (omega arith)
 seven-at g (suc k) j h m =

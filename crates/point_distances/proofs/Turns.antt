@@ -1,11 +1,11 @@
--- Turns of loops that fill an output from its front: Filling's laws of a run, from index 0, one number a turn or one row of n.
+-- A loop that fills an output from its front, one row of n numbers a turn: Filling's laws of a run, from index 0. What a whole run has at an index.
 use mathlib.Core.Path.{_≡_, sym, ap, _∙_, subst}
 use mathlib.Core.List.{List, [], _∷_, _++_}
 use Prim.Native.Nat.{ℕ, _+_, _*_, _%_, _≤_, _<_, zero-le}
 use native.Mathlib.Nat.{le-of-eq, lt-of-lt-of-le, zero-add, suc-mul, mul-le-mul, mul-le-mul-right}
 use native.Mathlib.Numerals.{add-one}
 use native.Mathlib.Omega.{arith}
-use lib.ListN.{length, set, take, drop}
+use lib.ListN.{take, drop}
 use lib.Seq.{getD-take, take-paste, ext-getD}
 use lib.Ieee.{Float, nan}
 use lib.Arith.{digits-div, digits-mod}
@@ -13,14 +13,7 @@ use Rattle.binary64.specs.Binary64.{at}
 use Rattle.math.specs.Math.{sub3, norm3}
 use Rattle.point_distances.specs.Distances.{point, difference, distance}
 use Rattle.lists.specs.Filling.{tabulate, run}
-use Rattle.lists.proofs.Filling.{tabulate-length, tabulate-at, run-next, run-run}
-
-all-fit : (c n : ℕ) → c ≤ n → 0 + c ≤ n
-all-fit c n h = omega arith
-
-pub front-next : (held now : List Float) (c : ℕ) (g : ℕ → Float) (k : ℕ) (v : Float) → c ≤ length held → k < c → now ≡ run held 0 c g k → v ≡ g k
-    → set now k v ≡ run held 0 c g (k + 1)
-front-next held now c g k v l m w e = run-next held now (set now k v) 0 c g k v (all-fit c (length held) l) m w (ap (λ (j : ℕ). set now j v) (sym (zero-add k))) e
+use Rattle.lists.proofs.Filling.{tabulate-length, tabulate-at, run-run}
 
 pub row-fits : (i n : ℕ) → i < n → i * n + n ≤ n * n
 row-fits i n h = subst (λ (k : ℕ). k ≤ n * n) (suc-mul i n) (mul-le-mul-right n h)

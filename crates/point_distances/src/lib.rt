@@ -1,4 +1,4 @@
-// The distances between the points of two panels, all at once: the differences, their squares and the guesses of the
+// The distances between the points of two panels, all at once: the differences, their squares and the estimates of the
 // roots in loops without a branch, which the compiler lays out in lanes, then the tests of both.
 ghost use mathlib.Core.Path.{_≡_};
 ghost use Prim.Native.Nat.{ℕ, _+_, _*_, _≤_, _<_};
@@ -6,13 +6,15 @@ ghost use lib.ListN.{length};
 ghost use Rattle.lists.specs.Lent.{passed, left};
 ghost use Rattle.binary64.specs.Binary64.{_⊖_, at};
 ghost use Rattle.math.specs.Math.{norm3};
-ghost use Rattle.square_root.specs.Estimate.{guess};
+ghost use Rattle.square_root.specs.Estimate.{rootEstimate};
 ghost use Rattle.length_lanes.specs.Length.{SquareOf};
 ghost use Rattle.lists.specs.Filling.{run};
 ghost use Rattle.point_distances.specs.Distances as Spec;
+ghost use Rattle.point_distances.specs.Distances.{maxPairs};
+ghost use Rattle.tri.specs.Quadrature.{maxPoints};
 
 // The most points that a rule has, squared.
-const MAX_PAIRS: usize = 49;
+pub const MAX_PAIRS: usize = 49;
 
 // q less each of the first n numbers, from index start.
 fn difference_row(q: f64, x: &[f64], n: usize, start: usize, out: &mut [f64])
@@ -28,7 +30,7 @@ fn difference_row(q: f64, x: &[f64], n: usize, start: usize, out: &mut [f64])
 
 // One coordinate of all pairs: the first n numbers a less the first n numbers x.
 fn differences(a: &[f64], x: &[f64], n: usize, out: &mut [f64])
-    requires { ⌜ (n ≤ length (now a)) × (n ≤ length (now x)) × (n ≤ 7) × (n * n ≤ length (now out)) ⌝ }
+    requires { ⌜ (n ≤ length (now a)) × (n ≤ length (now x)) × (n ≤ maxPoints) × (n * n ≤ length (now out)) ⌝ }
     ensures { λ _. ⌜ left out ≡ run (passed out) 0 (n * n) (Spec.difference (passed a) (passed x) n) (n * n) ⌝ }
 {
     let mut i = 0;
@@ -52,13 +54,13 @@ fn square_lanes(x: &[f64], y: &[f64], z: &[f64], count: usize, out: &mut [f64])
 }
 
 // Guesses of the roots of the first count numbers.
-fn guesses(x: &[f64], count: usize, out: &mut [f64])
+fn estimates(x: &[f64], count: usize, out: &mut [f64])
     requires { ⌜ (count ≤ length (now x)) × (count ≤ length (now out)) ⌝ }
-    ensures { λ _. ⌜ left out ≡ run (passed out) 0 count (λ k. guess (at (passed x) k)) count ⌝ }
+    ensures { λ _. ⌜ left out ≡ run (passed out) 0 count (λ k. rootEstimate (at (passed x) k)) count ⌝ }
 {
     let mut k = 0;
     while k < count {
-        out[k] = square_root::guess(x[k]);
+        out[k] = square_root::root_estimate(x[k]);
         k += 1;
     }
 }
@@ -80,13 +82,13 @@ fn lengths(x: &[f64], y: &[f64], z: &[f64], s: &[f64], near: &[f64], count: usiz
 // The lengths of the first count vectors (x, y, z).
 fn norms(x: &[f64], y: &[f64], z: &[f64], count: usize, out: &mut [f64])
     requires { ⌜ (count ≤ length (now x)) × (count ≤ length (now y)) × (count ≤ length (now z)) ⌝ }
-    requires { ⌜ (count ≤ 49) × (count ≤ length (now out)) ⌝ }
+    requires { ⌜ (count ≤ maxPairs) × (count ≤ length (now out)) ⌝ }
     ensures { λ _. ⌜ left out ≡ run (passed out) 0 count (λ k. norm3 (Spec.point (passed x) (passed y) (passed z) k)) count ⌝ }
 {
     let mut square = [0.0; MAX_PAIRS];
     let mut near = [0.0; MAX_PAIRS];
     square_lanes(x, y, z, count, &mut square);
-    guesses(&square, count, &mut near);
+    estimates(&square, count, &mut near);
     lengths(x, y, z, &square, &near, count, out);
 }
 
@@ -103,7 +105,7 @@ pub fn distances(
 )
     requires { ⌜ (n ≤ length (now a)) × (n ≤ length (now b)) × (n ≤ length (now c)) ⌝ }
     requires { ⌜ (n ≤ length (now x)) × (n ≤ length (now y)) × (n ≤ length (now z)) ⌝ }
-    requires { ⌜ (n ≤ 7) × (n * n ≤ length (now out)) ⌝ }
+    requires { ⌜ (n ≤ maxPoints) × (n * n ≤ length (now out)) ⌝ }
     ensures { λ _. ⌜ left out ≡ run (passed out) 0 (n * n) (Spec.distance (passed a) (passed b) (passed c) (passed x) (passed y) (passed z) n) (n * n) ⌝ }
 {
     let mut dx = [0.0; MAX_PAIRS];

@@ -12,7 +12,7 @@ use Rattle.binary64.specs.Binary64.{_⊕_, _⊖_, _⊗_, at, plusZero}
 use Rattle.binary64.proofs.Bounded.{Below, below, wider, square-within, mul-below, add-below, sub-below}
 use Rattle.binary64.proofs.Zeros.{zero-times, less-zero}
 use Rattle.ieee754.specs.Ieee754.{fma}
-use Rattle.ieee754.proofs.Bounded.{fma-below, square-add-within, sqrt-below}
+use Rattle.binary64.proofs.OperationsBounded.{fma-below, square-add-within, sqrt-below}
 use Rattle.elementary.proofs.Bounded.{zero-below, two-below, atan2-below}
 use Rattle.math.specs.Math.{Vec, dot3, norm3, cross3}
 use Rattle.potential.specs.Moderate.{limit, moderate, moderate3}

@@ -13,8 +13,8 @@ use Rattle.potential.specs.declared.Edge.{Edge}
 use Rattle.potential.specs.declared.UniformTriangle.{UniformTriangle}
 
 -- ---- three vectors as nine numbers
-unfoldable pub nine : Vec → Vec → Vec → List Float
-nine a b c = at a 0 ∷ at a 1 ∷ at a 2 ∷ at b 0 ∷ at b 1 ∷ at b 2 ∷ at c 0 ∷ at c 1 ∷ at c 2 ∷ []
+unfoldable pub joined : Vec → Vec → Vec → List Float
+joined a b c = at a 0 ∷ at a 1 ∷ at a 2 ∷ at b 0 ∷ at b 1 ∷ at b 2 ∷ at c 0 ∷ at c 1 ∷ at c 2 ∷ []
 
 unfoldable pub vector : List Float → ℕ → Vec
 vector v i = at v (i * 3) ∷ at v (i * 3 + 1) ∷ at v (i * 3 + 2) ∷ []
@@ -31,12 +31,12 @@ edgeBetween a b normal =
     record { tangent = tangent; outward = cross3 tangent normal; length = length }
 
 -- the record, of the corners, the normal and the three edges
-unfoldable pub kept : Tri → Vec → Edge → Edge → Edge → UniformTriangle
-kept t normal a b c = record {
-  nodes = nine (corner t 0) (corner t 1) (corner t 2);
+unfoldable pub uniformTriangleOf : Tri → Vec → Edge → Edge → Edge → UniformTriangle
+uniformTriangleOf t normal a b c = record {
+  nodes = joined (corner t 0) (corner t 1) (corner t 2);
   normal = normal;
-  «edge_tangent» = nine (a .tangent) (b .tangent) (c .tangent);
-  «edge_outward» = nine (a .outward) (b .outward) (c .outward);
+  «edge_tangent» = joined (a .tangent) (b .tangent) (c .tangent);
+  «edge_outward» = joined (a .outward) (b .outward) (c .outward);
   «edge_length» = a .length ∷ b .length ∷ c .length ∷ [];
   «max_edge» = longer (longer (longer plusZero (a .length)) (b .length)) (c .length);
 }
@@ -48,7 +48,7 @@ uniformTriangle t =
     let a = edgeBetween (corner t 0) (corner t 1) normal in
     let b = edgeBetween (corner t 1) (corner t 2) normal in
     let c = edgeBetween (corner t 2) (corner t 0) normal in
-    kept t normal a b c
+    uniformTriangleOf t normal a b c
 
 abbrev pub node : UniformTriangle → ℕ → Vec
 node p i = vector (p .nodes) i

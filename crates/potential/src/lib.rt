@@ -10,8 +10,8 @@ const SURFACE_EPSILON_FACTOR: f64 = 64.0;
 const EPSILON: f64 = 2.220446049250313e-16;
 
 // ---- three vectors as nine numbers, since a struct holds no array of arrays
-fn nine(a: [f64; 3], b: [f64; 3], c: [f64; 3]) -> [f64; 9]
-    ensures { λ r. ⌜ r ≡ Spec.nine a b c ⌝ }
+fn joined(a: [f64; 3], b: [f64; 3], c: [f64; 3]) -> [f64; 9]
+    ensures { λ r. ⌜ r ≡ Spec.joined a b c ⌝ }
 {
     [a[0], a[1], a[2], b[0], b[1], b[2], c[0], c[1], c[2]]
 }
@@ -125,15 +125,15 @@ impl UniformTriangle {
         let a = edge_between(t[0], t[1], normal);
         let b = edge_between(t[1], t[2], normal);
         let c = edge_between(t[2], t[0], normal);
-        let nodes = nine(t[0], t[1], t[2]);
+        let nodes = joined(t[0], t[1], t[2]);
         let a_tangent = a.tangent;
         let b_tangent = b.tangent;
         let c_tangent = c.tangent;
-        let edge_tangent = nine(a_tangent, b_tangent, c_tangent);
+        let edge_tangent = joined(a_tangent, b_tangent, c_tangent);
         let a_outward = a.outward;
         let b_outward = b.outward;
         let c_outward = c.outward;
-        let edge_outward = nine(a_outward, b_outward, c_outward);
+        let edge_outward = joined(a_outward, b_outward, c_outward);
         let edge_length = [a.length, b.length, c.length];
         let max_edge = longer(longer(longer(0.0, a.length), b.length), c.length);
         UniformTriangle {

@@ -1,17 +1,15 @@
 -- Inner form: the potential at many points, of the numbers of one edge. Definitions only; addEdgeOf is Potential's addEdge with the edge's numbers at hand.
-use Prim.Native.Nat.{ℕ, zero, suc, _+_, _*_, _/_, _%_, _<_}
-use mathlib.Core.Bool.{Bool, false, cond, _&&_, _||_}
-use mathlib.Core.List.{List, [], _∷_}
+use Prim.Native.Nat.{ℕ, _+_, _*_, _/_, _%_, _<_}
+use mathlib.Core.Bool.{Bool, cond, _&&_}
+use mathlib.Core.List.{List}
 use lib.Ieee.{Float, eq, ne}
 use Rattle.binary64.specs.Binary64.{_⊕_, _⊖_, _⊗_, at, plusZero}
+use Rattle.lists.specs.Counting.{someBelow}
 use Rattle.ieee754.specs.Ieee754.{fma, sqrt}
 use Rattle.math.specs.Math.{Vec, dot3, norm3, sub3, cross3}
-use Rattle.length_lanes.specs.Length.{squareLane, SquareOf}
+use Rattle.length_lanes.specs.Length.{SquareOf}
 use Rattle.potential.specs.Potential.{lineIntegral}
-
--- point i of three lists of coordinates
-abbrev pub point : List Float → List Float → List Float → ℕ → Vec
-point x y z i = at x i ∷ at y i ∷ at z i ∷ []
+pub use Rattle.length_lanes.specs.Length.{point, squareAt}
 
 -- the distance of obs from the plane through corner
 abbrev pub fromPlane : Vec → Vec → Vec → Float
@@ -45,10 +43,6 @@ distance corner obs = norm3 (sub3 obs corner)
 abbrev pub difference : List Float → ℕ → List Float → ℕ → Float
 difference nodes axis x i = at x (i % 7) ⊖ at nodes (i / 7 * 3 + axis)
 
--- the squared length of vector i by a lane
-abbrev pub squareAt : List Float → List Float → List Float → ℕ → Float
-squareAt x y z i = squareLane (at x i) (at y i) (at z i)
-
 -- each of the 21 numbers s is the squared length of its vector, or NaN
 abbrev pub SquaresOf : List Float → List Float → List Float → List Float → Type 0
 SquaresOf x y z s = (i : ℕ) → i < 21 → SquareOf (point x y z i) (at s i)
@@ -60,6 +54,5 @@ abbrev pub denominatorAt : Vec → Vec → Vec → Vec → Float → Float → F
 denominatorAt a b c obs = denominator (sub3 obs a) (sub3 obs b) (sub3 obs c)
 
 -- whether one of the first n of d is not a zero
-unfoldable pub offPlane : ℕ → List Float → Bool
-offPlane zero d = false
-offPlane (suc k) d = offPlane k d || ne (at d k) plusZero
+abbrev pub offPlane : ℕ → List Float → Bool
+offPlane n d = someBelow (λ (i : ℕ). ne (at d i) plusZero) n

@@ -27,7 +27,7 @@ none-applies (c ∷ cs) n =
     (λ e. (o e .0, w .0 (o e .1)), λ h. rw (h .0) (w .1 (h .1)))
 
 -- an answer that no check has is 0
-pub lacking : (k : ℕ) (cs : List Check) → T (lacks k cs) → first cs ≡ k → k ≡ 0
+lacking : (k : ℕ) (cs : List Check) → T (lacks k cs) → first cs ≡ k → k ≡ 0
 unfolding first
 lacking k [] n e = sym e
 lacking k (c ∷ cs) n e = lacking k cs (and-r (not (eqb (c .number) k)) (lacks k cs) n) (other c cs k (and-l (not (eqb (c .number) k)) (lacks k cs) n) e .1)

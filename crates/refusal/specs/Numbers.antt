@@ -48,3 +48,5 @@ fileLength = 15
 
 abbrev pub displayRange : ℕ
 displayRange = 16
+
+-- 17 to 22 are document 02's: each comes here, and to src/lib.rt, with the request that brings it

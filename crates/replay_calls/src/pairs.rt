@@ -2,7 +2,7 @@
 ghost use mathlib.Core.Path.{_≡_};
 ghost use Rattle.lists.specs.Lent.{passed};
 ghost use Rattle.replay_calls.specs.Kinds as Spec;
-use replay_words::words::nine;
+use replay_words::words::coordinates_at;
 use replay_words::words::same_flag;
 use replay_words::words::same_number;
 use replay_words::words::triangle;
@@ -88,7 +88,7 @@ pub fn block_energy(f: &[f64; 2048], w: &[u64; 2048]) -> bool
 {
     same_number(
         coupling::block::triangle_inductance_from_potential_vectors(
-            nine(f, 0),
+            coordinates_at(f, 0),
             vector(f, 9),
             vector(f, 12),
         ),

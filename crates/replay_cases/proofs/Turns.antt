@@ -1,4 +1,5 @@
--- A program's loop over its cases: the turns that are left count down from a million, and a turn counts nothing or one case's verdict. The laws stand here so that a program, which loads all that it replays, proves little.
+-- A program's loop over its cases: the turns that are left count down from a million, and a turn counts nothing or one case's verdict.
+-- The laws stand here so that a program, which loads all that it replays, proves little.
 use mathlib.Core.Path.{_≡_, refl}
 use mathlib.Core.Bool.{Bool, true, false, false≢true, true≢false}
 use mathlib.Core.List.{List}
@@ -24,5 +25,9 @@ pub no-turn : (agrees : ℕ → List ℕ → Bool) (cases differ : List ℕ) →
 no-turn agrees cases differ = record { none = λ e. (refl, refl); one = λ e. absurd (false≢true e) }
 
 -- a case of kind k with bytes b is judged
-pub a-turn : (agrees : ℕ → List ℕ → Bool) (k : ℕ) (b : List ℕ) {cases differ cases' differ' : List ℕ} → k < 64 → cases' ≡ counted cases k → differ' ≡ judged (agrees k b) differ k → Turn agrees cases differ true cases' differ'
+pub a-turn : (agrees : ℕ → List ℕ → Bool) (k : ℕ) (b : List ℕ) {cases differ cases' differ' : List ℕ}
+    → k < 64
+    → cases' ≡ counted cases k
+    → differ' ≡ judged (agrees k b) differ k
+    → Turn agrees cases differ true cases' differ'
 a-turn agrees k b l c d = record { none = λ e. absurd (true≢false e); one = λ e. (k, b, l, c, d) }

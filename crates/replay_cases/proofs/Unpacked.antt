@@ -25,5 +25,7 @@ module _ {A : Type 0} where
     holds = column-turn l₀ l (set l i v) 2048 g i v (h .began) t (h .holds) refl e;
   }
 
-  pub whole : {g : ℕ → A} {l₀ l : List A} {i : ℕ} → Unpacked g l₀ l i → i ≡ 2048 → l ≡ tabulate 2048 g
-  whole {g} {l₀} {l} {i} h e = column-end l₀ l 2048 g i (h .began) e (h .holds)
+  pub whole : {g : ℕ → A} {l₀ l : List A} {i : ℕ} → Unpacked g l₀ l i → 2048 ≤ i → l ≡ tabulate 2048 g
+  whole {g} {l₀} {l} {i} h t =
+      let e : i ≡ 2048 = omega (arith, h .upto, t) in
+      column-end l₀ l 2048 g i (h .began) e (h .holds)

@@ -7,7 +7,6 @@ use Prim.Native.Nat.{ℕ, _+_, _-_, _*_, _<_, _≤_}
 use native.Mathlib.Omega.{arith}
 use mir.Syntax.{w64}
 use mir.Val.{Fits}
-use borrow.Author.Needs.{fits-under}
 use borrow.Author.Tests.{eqb-true, eqb-false}
 use lib.Dec.{eqb}
 use lib.ListN.{length, getD, take, length-take}
@@ -22,6 +21,7 @@ use Rattle.node_move.specs.Move.{moved, ring, namedCount, MoveClaim, MovedBy}
 use Rattle.replay_words.proofs.Lent.{at-most}
 use Rattle.replay_words.specs.Words.{cutAt, part, vectorAt}
 use Rattle.replay_columns.specs.After.{leftAsDue}
+use Rattle.lists.proofs.Indices.{index-fits}
 use Rattle.replay_move.specs.Move.{moveInto, moveOf}
 
 -- a column or the matrix, by the two cases
@@ -46,7 +46,8 @@ record Left (cellOf : Mesh → ℕ → ℕ → Float) (m : Mesh) (old : List Flo
   pub y : m′ .ys ≡ after r (moved m v px py pz .ys) (m .ys)
   pub z : m′ .zs ≡ after r (moved m v px py pz .zs) (m .zs)
 
-left : {Choice : Type 0} {cellOf : Mesh → ℕ → ℕ → Float} {matrixOf : Mesh → List Float} {refusal : ℕ} {m : Mesh} {old : List Float} {v : ℕ} {px py pz : Float} {r count : ℕ} {m′ : Mesh} {new : List Float}
+left : {Choice : Type 0} {cellOf : Mesh → ℕ → ℕ → Float} {matrixOf : Mesh → List Float}
+    {refusal : ℕ} {m : Mesh} {old : List Float} {v : ℕ} {px py pz : Float} {r count : ℕ} {m′ : Mesh} {new : List Float}
     → MoveClaim Choice cellOf matrixOf refusal m old v px py pz r count m′ new → Left cellOf m old v px py pz r count m′ new
 left {r = r} h = record {
   total = counted r _ _ (λ e. h .accepted e .total) (λ n. h .refused n .2);
@@ -57,7 +58,8 @@ left {r = r} h = record {
 }
 
 -- what is compared, of a move whose copies are what the case has
-pub compared : (number : ℕ) (p : List Float) (w : List ℕ) (k : ℕ) (t0 t1 t2 : List ℕ) {x y z x0 y0 z0 : List Float} {cells cells0 : List Float} {v r count : ℕ} {x' y' z' new : List Float} {b : Bool}
+pub compared : (number : ℕ) (p : List Float) (w : List ℕ) (k : ℕ) (t0 t1 t2 : List ℕ)
+    {x y z x0 y0 z0 : List Float} {cells cells0 : List Float} {v r count : ℕ} {x' y' z' new : List Float} {b : Bool}
     → (x ≡ x0) × (y ≡ y0) × (z ≡ z0) × (cells ≡ cells0)
     → MovedBy number (meshOf x y z t0 t1 t2) cells v (at p 0) (at p 1) (at p 2) r count (meshOf x' y' z' t0 t1 t2) new
     → b ≡ leftAsDue r count x' y' z' new x0 y0 z0 cells0 w k
@@ -87,20 +89,23 @@ pub record Places (g n : ℕ) : Type 0 where
 
 pub places : (g n : ℕ) → g ≤ 298 → n ≤ 576 → Places g n
 places g n a b = record {
-  one = fits-under w64 (g + 1) 16384 (omega arith) tt;
-  one-bytes = fits-under w64 ((g + 1) * 8) 16384 (omega arith) tt;
-  matrix-end = fits-under w64 (g + 1 + n) 16384 (omega arith) tt;
-  end-bytes = fits-under w64 ((g + 1 + n) * 8) 16384 (omega arith) tt;
+  one = index-fits (omega arith);
+  one-bytes = index-fits (omega arith);
+  matrix-end = index-fits (omega arith);
+  end-bytes = index-fits (omega arith);
   inside = omega arith;
   vector = omega arith;
-  two = fits-under w64 (g + 2) 16384 (omega arith) tt;
-  place = fits-under w64 (g + 2 + n) 16384 (omega arith) tt;
-  five = fits-under w64 (g + 5) 16384 (omega arith) tt;
-  results = fits-under w64 (g + 5 + n) 16384 (omega arith) tt;
+  two = index-fits (omega arith);
+  place = index-fits (omega arith);
+  five = index-fits (omega arith);
+  results = index-fits (omega arith);
 }
 
 -- the stored results, with columns of so many nodes, end within the case
-pub results-inside : (g n nx ny nz : ℕ) (l : List Float) → (g ≤ 298) × (nx ≤ 48) × (ny ≤ 48) × (nz ≤ 48) → n ≤ 576 → g + 5 + n + 2 + length (take (g + 1 + n - (g + 1)) l) + nx + ny + nz ≤ 2048
+pub results-inside : (g n nx ny nz : ℕ) (l : List Float)
+    → (g ≤ 298) × (nx ≤ 48) × (ny ≤ 48) × (nz ≤ 48)
+    → n ≤ 576
+    → g + 5 + n + 2 + length (take (g + 1 + n - (g + 1)) l) + nx + ny + nz ≤ 2048
 results-inside g n nx ny nz l a b = omega (arith, cells-short g n 576 l b)
 
 -- the lengths of what the call leaves are those of what it was lent, and so of what the case has

@@ -15,8 +15,8 @@ vectorAt f k = at f k ∷ at f (k + 1) ∷ at f (k + 2) ∷ []
 unfoldable pub triangleAt : List Float → ℕ → List (List Float)
 triangleAt f k = vectorAt f k ∷ vectorAt f (k + 3) ∷ vectorAt f (k + 6) ∷ []
 
-unfoldable pub nineAt : List Float → ℕ → List Float
-nineAt f k = at f k ∷ at f (k + 1) ∷ at f (k + 2) ∷ at f (k + 3) ∷ at f (k + 4) ∷ at f (k + 5) ∷ at f (k + 6) ∷ at f (k + 7) ∷ at f (k + 8) ∷ []
+unfoldable pub coordinatesAt : List Float → ℕ → List Float
+coordinatesAt f k = at f k ∷ at f (k + 1) ∷ at f (k + 2) ∷ at f (k + 3) ∷ at f (k + 4) ∷ at f (k + 5) ∷ at f (k + 6) ∷ at f (k + 7) ∷ at f (k + 8) ∷ []
 
 -- ---- results
 unfoldable pub sameWord : ℕ → List ℕ → ℕ → Bool

@@ -21,9 +21,9 @@ pub fn triangle(f: &[f64; 2048], k: usize) -> [[f64; 3]; 3]
     [a, b, c]
 }
 
-pub fn nine(f: &[f64; 2048], k: usize) -> [f64; 9]
+pub fn coordinates_at(f: &[f64; 2048], k: usize) -> [f64; 9]
     requires { ⌜ k + 9 ≤ 2048 ⌝ }
-    ensures { λ r. ⌜ r ≡ Spec.nineAt (passed f) k ⌝ }
+    ensures { λ r. ⌜ r ≡ Spec.coordinatesAt (passed f) k ⌝ }
 {
     [
         f[k],
@@ -162,12 +162,12 @@ pub fn same_count(refusal: u32, count: usize, w: &[u64; 2048], k: usize) -> bool
 }
 
 // A refusal, where a row begins and how long it is.
-pub fn same_place(refusal: u32, offset: usize, length: usize, w: &[u64; 2048], k: usize) -> bool
+pub fn same_place(refusal: u32, offset: usize, count: usize, w: &[u64; 2048], k: usize) -> bool
     requires { ⌜ k + 3 ≤ 2048 ⌝ }
-    ensures { λ r. ⌜ r ≡ Spec.samePlace refusal offset length (passed w) k ⌝ }
+    ensures { λ r. ⌜ r ≡ Spec.samePlace refusal offset count (passed w) k ⌝ }
 {
     let a = same_word(refusal as u64, w, k);
     let b = same_word(offset as u64, w, k + 1);
-    let c = same_word(length as u64, w, k + 2);
+    let c = same_word(count as u64, w, k + 2);
     (a) & ((b) & (c))
 }

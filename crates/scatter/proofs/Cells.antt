@@ -15,12 +15,12 @@ use Rattle.lists.proofs.Filling.{tabulate-length, tabulate-at}
 use Rattle.scatter.specs.Entries.{Entry, oriented, withTransposed, hits, keep, contributions, sumFrom, cellSum, square}
 use Rattle.scatter.specs.Renewal.{named, renewed, addAt, scatter, only, keepEntry, Within}
 
-pub both-on : (a b : Bool) → (a && b) ≡ true → (a ≡ true) × (b ≡ true)
+both-on : (a b : Bool) → (a && b) ≡ true → (a ≡ true) × (b ≡ true)
 both-on true b e = (refl, e)
 both-on false b e = absurd (false≢true e)
 
 -- ---- one addition, and all of them
-pub length-addAt : (n : ℕ) (m : List Float) (e : Entry) → length (addAt n m e) ≡ length m
+length-addAt : (n : ℕ) (m : List Float) (e : Entry) → length (addAt n m e) ≡ length m
 length-addAt n m e = simp length-set
 
 pub length-scatter : (n : ℕ) (es : List Entry) (m : List Float) → length (scatter n m es) ≡ length m
@@ -54,7 +54,7 @@ sum-keep : (b : Bool) (x v : Float) (vs : List Float) → sumFrom x (keep b v vs
 sum-keep true x v vs = refl
 sum-keep false x v vs = refl
 
-pub at-scatter : (n k : ℕ) (es : List Entry) (m : List Float)
+at-scatter : (n k : ℕ) (es : List Entry) (m : List Float)
     → Within n es → k < length m → at (scatter n m es) k ≡ sumFrom (at m k) (contributions es (k / n) (k % n))
 unfolding scatter
 at-scatter n k [] m w l = refl
@@ -94,7 +94,7 @@ missed : (t : Bool) (e : Entry) (es : List Entry) (a b : ℕ) → hits e a b ≡
 missed true e es a b h = rw h
 missed false e es a b h = refl
 
-pub contributions-only : (r : ℕ → Bool) (es : List Entry) (a b : ℕ) → contributions (only r es) a b ≡ cond (named r a b) (contributions es a b) []
+contributions-only : (r : ℕ → Bool) (es : List Entry) (a b : ℕ) → contributions (only r es) a b ≡ cond (named r a b) (contributions es a b) []
 contributions-only r [] a b = go (named r a b)
   where
     go : (t : Bool) → _≡_ {A = List Float} [] (cond t [] [])
@@ -132,7 +132,7 @@ pub within-append : (n : ℕ) (es fs : List Entry) → Within n es → Within n 
 within-append n [] fs w v = v
 within-append n (e ∷ es) fs w v = (w .0, w .1, within-append n es fs (w .2) v)
 
-pub within-transposed : (n : ℕ) (es : List Entry) → Within n es → Within n (oriented true es)
+within-transposed : (n : ℕ) (es : List Entry) → Within n es → Within n (oriented true es)
 unfolding oriented
 within-transposed n [] w = tt
 within-transposed n (e ∷ es) w = (w .1, w .0, within-transposed n es (w .2))
@@ -142,7 +142,7 @@ unfolding withTransposed
 within-both n true es w = w
 within-both n false es w = within-append n es (oriented true es) w (within-transposed n es w)
 
-pub within-only : (n : ℕ) (r : ℕ → Bool) (es : List Entry) → Within n es → Within n (only r es)
+within-only : (n : ℕ) (r : ℕ → Bool) (es : List Entry) → Within n es → Within n (only r es)
 within-only n r [] w = tt
 within-only n r (e ∷ es) w = go (named r (e .row) (e .col)) (within-only n r es (w .2))
   where

@@ -6,3 +6,4 @@ pub mod Misses
 pub mod Renewals
 pub mod Flags
 pub mod Few
+mod Theorems

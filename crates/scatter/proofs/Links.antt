@@ -10,7 +10,7 @@ use native.Mathlib.Omega.{arith}
 use lib.ListN.{length, getD, set}
 use lib.Seq.{getD-set-same, getD-set-other}
 use Rattle.scatter.specs.Renewal.{named}
-use Rattle.scatter.specs.Links.{nextFrom, Linked}
+use Rattle.scatter.specs.Links.{nextFrom, LinksNext}
 
 -- ---- where it lies
 pub next-bounds : (t : ℕ → Bool) (j c : ℕ) → (j ≤ nextFrom t j c) × (nextFrom t j c ≤ j + c)
@@ -89,7 +89,7 @@ unfolding nextFrom
 link-step t n k l = let e : n - k ≡ suc (n - (k + 1)) = omega arith in rw (e, add-one k)
 
 link-more : (t : ℕ → Bool) (n k : ℕ) (links : List ℕ) (v : ℕ)
-    → k < length links → v ≡ nextFrom t k (n - k) → Linked (k + 1) t n links → Linked k t n (set links k v)
+    → k < length links → v ≡ nextFrom t k (n - k) → LinksNext (k + 1) t n links → LinksNext k t n (set links k v)
 link-more t n k links v l e w = λ j a b. go j b (eq-or-lt-of-le a)
   where
     go : (j : ℕ) → j < n → (k ≡ j) ⊎ (k < j) → getD (set links k v) j 0 ≡ nextFrom t j (n - j)
@@ -102,10 +102,10 @@ pub link-down : (t : ℕ → Bool) (n k : ℕ) (links : List ℕ) (first v : ℕ
     → k - 1 < length links
     → first ≡ nextFrom t k (n - k)
     → v ≡ cond (t (k - 1)) (k - 1) first
-    → Linked k t n links
-    → (v ≡ nextFrom t (k - 1) (n - (k - 1))) × Linked (k - 1) t n (set links (k - 1) v)
+    → LinksNext k t n links
+    → (v ≡ nextFrom t (k - 1) (n - (k - 1))) × LinksNext (k - 1) t n (set links (k - 1) v)
 link-down t n k links first v p l b e f w =
     let z : k - 1 + 1 ≡ k = omega arith in
     let q : v ≡ nextFrom t (k - 1) (n - (k - 1)) =
     f ∙ ap (λ (i : ℕ). cond (t (k - 1)) (k - 1) i) (e ∙ ap (λ (j : ℕ). nextFrom t j (n - j)) (sym z)) ∙ link-step t n (k - 1) (omega arith) in
-    (q, link-more t n (k - 1) links v b q (subst (λ (j : ℕ). Linked j t n links) (sym z) w))
+    (q, link-more t n (k - 1) links v b q (subst (λ (j : ℕ). LinksNext j t n links) (sym z) w))

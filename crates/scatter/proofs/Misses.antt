@@ -24,7 +24,7 @@ contributions-append (e ∷ es) fs a b = go (hits e a b) (contributions-append e
     go false ih = ih
 
 -- a transposed addition hits (a, b) where the addition hits (b, a)
-pub contributions-transposed : (es : List Entry) (a b : ℕ) → contributions (oriented true es) a b ≡ contributions es b a
+contributions-transposed : (es : List Entry) (a b : ℕ) → contributions (oriented true es) a b ≡ contributions es b a
 unfolding oriented
 contributions-transposed [] a b = refl
 contributions-transposed (e ∷ es) a b = ap₂ (λ (t : Bool) (l : List Float). keep t (e .value) l) (and-comm (eqb (e .col) a) (eqb (e .row) b)) (contributions-transposed es a b)

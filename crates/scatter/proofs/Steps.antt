@@ -17,7 +17,7 @@ use Rattle.scatter.proofs.Cells.{only-append, scatter-append, length-sc
 pub in-square : {n row col : ℕ} → n ≤ maxNodes → row < n → col < n → (row * n + col < n * n) × (n * n ≤ maxNodes * maxNodes)
 in-square {n} s r c = (digits-lt r c, mul-le-mul s s)
 
-pub some-node : {n k l : ℕ} → l ≡ n * n → k < l → 0 < n
+some-node : {n k l : ℕ} → l ≡ n * n → k < l → 0 < n
 some-node {n} {k} e h = pos-of n (subst (λ (x : ℕ). k < x) e h)
   where
     pos-of : (n : ℕ) → k < n * n → 0 < n
@@ -39,7 +39,7 @@ pub length-renewing : (r : ℕ → Bool) (n : ℕ) (m : List Float) (es : List E
 unfolding renewing
 length-renewing r n m es = length-scatter n (only r es) m
 
-pub oriented-append : (t : Bool) (es fs : List Entry) → oriented t (es ++ fs) ≡ oriented t es ++ oriented t fs
+oriented-append : (t : Bool) (es fs : List Entry) → oriented t (es ++ fs) ≡ oriented t es ++ oriented t fs
 unfolding oriented
 oriented-append false es fs = refl
 oriented-append true [] fs = refl

@@ -11,5 +11,5 @@ nextFrom t j zero = j
 nextFrom t j (suc c) = cond (t j) j (nextFrom t (suc j) c)
 
 -- at each number from k up and below n stands the first from it up that passes, n if none does
-abbrev pub Linked : ℕ → (ℕ → Bool) → ℕ → List ℕ → Type 0
-Linked k t n links = (j : ℕ) → k ≤ j → j < n → getD links j 0 ≡ nextFrom t j (n - j)
+abbrev pub LinksNext : ℕ → (ℕ → Bool) → ℕ → List ℕ → Type 0
+LinksNext k t n links = (j : ℕ) → k ≤ j → j < n → getD links j 0 ≡ nextFrom t j (n - j)

@@ -10,11 +10,11 @@ ghost use Rattle.lists.specs.Lent.{passed, left};
 ghost use Rattle.binary64.specs.Binary64.{plusZero};
 ghost use Rattle.mesh.specs.Mesh.{maxNodes, meshOf};
 ghost use Rattle.mesh.specs.Conditions.{PanelColumnsAlike};
-ghost use Rattle.lists.specs.Counting.{anyOf, three};
+ghost use Rattle.lists.specs.Counting.{anyOf, triple};
 ghost use Rattle.lists.specs.Filling.{run};
 ghost use Rattle.scatter.specs.Entries.{entry, rowEntries, blockEntries, oriented, withTransposed};
 ghost use Rattle.scatter.specs.Renewal.{named, renewed, addAt, renewing, clearedIn, marked, Sized, AllBelow};
-ghost use Rattle.scatter.specs.Links.{nextFrom, Linked};
+ghost use Rattle.scatter.specs.Links.{nextFrom, LinksNext};
 ghost use Rattle.scatter.specs.Flags.{IndicesBelow, Flagged};
 
 // One addition.
@@ -69,8 +69,8 @@ fn add_row(
     transposed: bool,
 )
     requires { ⌜ Sized n (now out) (now marks) ⌝ }
-    requires { ⌜ (row < n) × AllBelow n (three t) ⌝ }
-    ensures { λ _. ⌜ left out ≡ renewing (marked (passed marks)) n (passed out) (oriented transposed (rowEntries row (three t) v 0)) ⌝ }
+    requires { ⌜ (row < n) × AllBelow n (triple t) ⌝ }
+    ensures { λ _. ⌜ left out ≡ renewing (marked (passed marks)) n (passed out) (oriented transposed (rowEntries row (triple t) v 0)) ⌝ }
 {
     add_oriented(out, n, marks, row, t[0], v[0], transposed);
     add_oriented(out, n, marks, row, t[1], v[1], transposed);
@@ -88,8 +88,8 @@ pub fn scatter_triangle_block(
     transposed: bool,
 )
     requires { ⌜ Sized n (now out) (now marks) ⌝ }
-    requires { ⌜ AllBelow n (three s) × AllBelow n (three t) ⌝ }
-    ensures { λ _. ⌜ left out ≡ renewing (marked (passed marks)) n (passed out) (oriented transposed (blockEntries (three s) (three t) b 0)) ⌝ }
+    requires { ⌜ AllBelow n (triple s) × AllBelow n (triple t) ⌝ }
+    ensures { λ _. ⌜ left out ≡ renewing (marked (passed marks)) n (passed out) (oriented transposed (blockEntries (triple s) (triple t) b 0)) ⌝ }
 {
     add_row(out, n, marks, s[0], t, [b[0], b[1], b[2]], transposed);
     add_row(out, n, marks, s[1], t, [b[3], b[4], b[5]], transposed);
@@ -107,8 +107,8 @@ pub fn scatter_pair(
     same: bool,
 )
     requires { ⌜ Sized n (now out) (now marks) ⌝ }
-    requires { ⌜ AllBelow n (three s) × AllBelow n (three t) ⌝ }
-    ensures { λ _. ⌜ left out ≡ renewing (marked (passed marks)) n (passed out) (withTransposed same (blockEntries (three s) (three t) b 0)) ⌝ }
+    requires { ⌜ AllBelow n (triple s) × AllBelow n (triple t) ⌝ }
+    ensures { λ _. ⌜ left out ≡ renewing (marked (passed marks)) n (passed out) (withTransposed same (blockEntries (triple s) (triple t) b 0)) ⌝ }
 {
     scatter_triangle_block(out, n, marks, s, t, b, false);
     if !same {
@@ -118,8 +118,8 @@ pub fn scatter_pair(
 
 // One of the nodes of a panel is marked.
 pub fn touches(marks: &[bool], s: [usize; 3]) -> bool
-    requires { ⌜ AllBelow (length (now marks)) (three s) ⌝ }
-    ensures { λ r. ⌜ r ≡ anyOf (marked (passed marks)) (three s) ⌝ }
+    requires { ⌜ AllBelow (length (now marks)) (triple s) ⌝ }
+    ensures { λ r. ⌜ r ≡ anyOf (marked (passed marks)) (triple s) ⌝ }
 {
     marks[s[0]] | (marks[s[1]] | marks[s[2]])
 }
@@ -137,7 +137,7 @@ fn link(mark: bool, k: usize, above: usize) -> usize
 // For each place below n the first marked one from it up, n if there is none.
 pub fn link_marked(marks: &[bool], n: usize, links: &mut [usize])
     requires { ⌜ (n ≤ length (now marks)) × (n ≤ length (now links)) ⌝ }
-    ensures { λ _. ⌜ Linked 0 (marked (passed marks)) n (left links) ⌝ }
+    ensures { λ _. ⌜ LinksNext 0 (marked (passed marks)) n (left links) ⌝ }
 {
     let mut first = n;
     let mut k = n;
@@ -151,7 +151,7 @@ pub fn link_marked(marks: &[bool], n: usize, links: &mut [usize])
 // The first column from `col` up that is named in the row, n if there is none.
 pub fn next_named(marks: &[bool], links: &[usize], n: usize, row: usize, col: usize) -> usize
     requires { ⌜ (n ≤ length (now marks)) × (n ≤ length (now links)) ⌝ }
-    requires { ⌜ (col < n → row < n) × Linked 0 (marked (now marks)) n (now links) ⌝ }
+    requires { ⌜ (col < n → row < n) × LinksNext 0 (marked (now marks)) n (now links) ⌝ }
     ensures { λ r. ⌜ r ≡ nextFrom (named (marked (passed marks)) row) col (n - col) ⌝ }
 {
     if n <= col {
@@ -166,7 +166,7 @@ pub fn next_named(marks: &[bool], links: &[usize], n: usize, row: usize, col: us
 // The named cells of a row become +0.
 fn clear_row(out: &mut [f64], n: usize, marks: &[bool], links: &[usize], row: usize)
     requires { ⌜ Sized n (now out) (now marks) ⌝ }
-    requires { ⌜ (row < n) × (n ≤ length (now links)) × Linked 0 (marked (now marks)) n (now links) ⌝ }
+    requires { ⌜ (row < n) × (n ≤ length (now links)) × LinksNext 0 (marked (now marks)) n (now links) ⌝ }
     ensures { λ _. ⌜ left out ≡ run (passed out) (row * n) n (clearedIn (marked (passed marks)) n (passed out) row) n ⌝ }
 {
     let base = row * n;

@@ -90,18 +90,18 @@ pub extern "C" fn screens_matrix_row(
     n: usize,
     node: usize,
     offset: &mut usize,
-    length: &mut usize,
+    count: &mut usize,
 ) -> u32
-    ensures { λ r. ⌜ RowAt (Row.matrixRowRefusal (List.length (passed matrix)) n node) n node r (left offset) (left length) ⌝ }
+    ensures { λ r. ⌜ RowAt (Row.matrixRowRefusal (List.length (passed matrix)) n node) n node r (left offset) (left count) ⌝ }
 {
     let refusal = linkage::row::triangle_mesh_matrix_row_refusal(matrix, n, node);
     if refusal != 0 {
         *offset = 0;
-        *length = 0;
+        *count = 0;
         return refusal;
     }
     *offset = node * n;
-    *length = n;
+    *count = n;
     0
 }
 
@@ -112,18 +112,18 @@ pub extern "C" fn screens_map_row(
     sources: usize,
     node: usize,
     offset: &mut usize,
-    length: &mut usize,
+    count: &mut usize,
 ) -> u32
-    ensures { λ r. ⌜ RowAt (Row.mapRowRefusal (List.length (passed map)) sources node) sources node r (left offset) (left length) ⌝ }
+    ensures { λ r. ⌜ RowAt (Row.mapRowRefusal (List.length (passed map)) sources node) sources node r (left offset) (left count) ⌝ }
 {
     let refusal = linkage::row::triangle_mesh_map_row_refusal(map, sources, node);
     if refusal != 0 {
         *offset = 0;
-        *length = 0;
+        *count = 0;
         return refusal;
     }
     *offset = node * sources;
-    *length = sources;
+    *count = sources;
     0
 }
 

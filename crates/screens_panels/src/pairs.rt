@@ -9,13 +9,13 @@ ghost use Rattle.panel_distance.specs.Distance as Distance;
 ghost use Rattle.lent_numbers.specs.Numbers.{halvesOf};
 ghost use Rattle.screens_panels.specs.Screens.{vector, triangle, Valued, WroteBlock};
 use lent_numbers::eighteen;
-use panel_points::three;
+use panel_points::triangle;
 
 #[no_mangle]
 pub extern "C" fn screens_triangle_distance_squared(source: &[f64; 9], target: &[f64; 9]) -> f64
     ensures { λ r. ⌜ r ≡ Distance.triangleDistanceSquared (triangle source) (triangle target) ⌝ }
 {
-    panel_distance::distance::triangle_distance_squared(three(*source), three(*target))
+    panel_distance::distance::triangle_distance_squared(triangle(*source), triangle(*target))
 }
 
 #[no_mangle]
@@ -25,21 +25,21 @@ pub extern "C" fn screens_triangle_aabb_distance_squared(
 ) -> f64
     ensures { λ r. ⌜ r ≡ Distance.triangleAabbDistanceSquared (triangle source) (triangle target) ⌝ }
 {
-    panel_distance::distance::triangle_aabb_distance_squared(three(*source), three(*target))
+    panel_distance::distance::triangle_aabb_distance_squared(triangle(*source), triangle(*target))
 }
 
 #[no_mangle]
 pub extern "C" fn screens_triangle_max_edge_squared(t: &[f64; 9]) -> f64
     ensures { λ r. ⌜ r ≡ Distance.triangleMaxEdgeSquared (triangle t) ⌝ }
 {
-    panel_distance::distance::triangle_max_edge_squared(three(*t))
+    panel_distance::distance::triangle_max_edge_squared(triangle(*t))
 }
 
 #[no_mangle]
 pub extern "C" fn screens_is_far(source: &[f64; 9], target: &[f64; 9]) -> bool
     ensures { λ r. ⌜ r ≡ Coupling.isFar (triangle source) (triangle target) ⌝ }
 {
-    coupling::coupling::is_far(three(*source), three(*target))
+    coupling::coupling::is_far(triangle(*source), triangle(*target))
 }
 
 // The geometric coupling; it goes to the lent number, 0 on a refusal, as every value below.
@@ -52,7 +52,11 @@ pub extern "C" fn screens_coupling(
 ) -> u32
     ensures { λ r. ⌜ Valued (Calls.triangleGeometricCoupling rule (triangle source) (triangle target)) r (left value) ⌝ }
 {
-    let answer = coupling::calls::triangle_geometric_coupling(rule, three(*source), three(*target));
+    let answer = coupling::calls::triangle_geometric_coupling(
+        rule,
+        triangle(*source),
+        triangle(*target),
+    );
     *value = answer.value;
     answer.refusal
 }
@@ -68,8 +72,8 @@ pub extern "C" fn screens_coupling_regular(
 {
     let answer = coupling::calls::triangle_geometric_coupling_regular(
         rule,
-        three(*source),
-        three(*target),
+        triangle(*source),
+        triangle(*target),
     );
     *value = answer.value;
     answer.refusal
@@ -89,9 +93,9 @@ pub extern "C" fn screens_mutual_inductance(
 {
     let answer = coupling::calls::triangle_basis_mutual_inductance(
         rule,
-        three(*source),
+        triangle(*source),
         i,
-        three(*target),
+        triangle(*target),
         j,
     );
     *value = answer.value;
@@ -110,8 +114,8 @@ pub extern "C" fn screens_mutual_inductance_block(
 {
     let answer = coupling::calls::triangle_basis_mutual_inductance_block(
         rule,
-        three(*source),
-        three(*target),
+        triangle(*source),
+        triangle(*target),
     );
     if answer.refusal != 0 {
         return answer.refusal;
@@ -138,5 +142,5 @@ pub extern "C" fn screens_inductance_from_potentials(
 pub extern "C" fn screens_longest_edge_bisection(t: &[f64; 9], out: &mut [f64; 18])
     ensures { λ _. ⌜ left out ≡ halvesOf (Bisection.longestEdgeBisection (triangle t)) ⌝ }
 {
-    *out = eighteen(panel_distance::bisection::longest_edge_bisection(three(*t)));
+    *out = eighteen(panel_distance::bisection::longest_edge_bisection(triangle(*t)));
 }

@@ -4,8 +4,8 @@ use Prim.Native.Nat.{ℕ, suc, _+_, _-_, _*_, _/_, _^_, _≤_, _<_}
 use native.Mathlib.Nat.{mul-add, add-mul, pow-suc, div-lt-iff-lt-mul, le-div-iff-mul-le}
 use native.Mathlib.Omega.{arith}
 use lib.Pow.{pow-pos}
-use Rattle.square_root.specs.Nearest.{NearRoot, Scaled, Digits}
-use Rattle.square_root.proofs.Square.{near-between}
+use Rattle.binary64.specs.Nearest.{NearRoot, Scaled, Digits}
+use Rattle.binary64.proofs.Root.Squares.{near-between}
 
 -- the digits of q * (q + 1) above 2 ^ 52
 abbrev pub high : ℕ → ℕ

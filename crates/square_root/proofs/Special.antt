@@ -1,4 +1,4 @@
--- The roots that need no arithmetic: a NaN, a zero, an infinity and what is below zero, by their patterns; and the root of what the format holds is held.
+-- The roots that need no arithmetic: a NaN, a zero, an infinity and what is below zero, by their patterns.
 use mathlib.Core.Path.{_≡_, refl, sym, ap, _∙_, subst}
 use Prim.Native.Nat.{ℕ, zero, suc, _+_, _*_, _/_, _%_, _^_, _≤_, _<_}
 use native.Mathlib.Nat.{le-of-lt, lt-irrefl, mul-pos}
@@ -8,20 +8,12 @@ use lib.Dec.{T, eqb, leb, eqb→eq, leb→le, nleb→lt}
 use lib.Arith.{lt-of-le-ne}
 use lib.Pow.{pow-pos}
 use lib.Ieee.{Float, nan, inf, fin, Format, binary64, up, down, odd, ofFields, ofBits, toBits, fits, div}
-use lib.Ieee.Fits.{down-pos, round-fits, nan-fits, inf-fits}
+use lib.Ieee.Fits.{down-pos}
 use lib.Ieee.Exact.{HasValue, odd-sign}
 use lib.Ieee.Bits.{ofBits-toBits}
 use Rattle.binary64.proofs.Pattern.{above-zero, opened}
-use Rattle.binary64.specs.Operations.{squareRoot, rootOf}
-
-pub sqrt-fits : (f : Format) (x : Float) → T (fits f x) → T (fits f (squareRoot f x))
-unfolding squareRoot rootOf
-sqrt-fits f nan h = nan-fits f
-sqrt-fits f (inf true) h = nan-fits f
-sqrt-fits f (inf false) h = inf-fits f false
-sqrt-fits f (fin s zero e) h = h
-sqrt-fits f (fin true (suc m) e) h = nan-fits f
-sqrt-fits f (fin false (suc m) e) h = round-fits f false _ _
+use Rattle.binary64.specs.Operations.{squareRoot}
+use Rattle.binary64.specs.Format.{infinityBits, lowest, topField}
 
 below-zero : (f : Format) (x : Float) (v l : ℕ) → HasValue x true v l → 0 < v → squareRoot f x ≡ nan
 unfolding squareRoot
@@ -33,16 +25,16 @@ below-zero f (fin true (suc m) e) v l h p = refl
 
 negative-fields : (x t : ℕ) → 0 < x + t → squareRoot binary64 (ofFields binary64 true x t) ≡ nan
 unfolding ofFields
-negative-fields zero t h = below-zero binary64 (odd 53 true t 0 1074) (t * 1) (2 ^ 1074) (odd-sign 53 true t 0 1074) (one t h)
+negative-fields zero t h = below-zero binary64 (odd 53 true t 0 lowest) (t * 1) (2 ^ lowest) (odd-sign 53 true t 0 lowest) (one t h)
   where
     one : (t : ℕ) → 0 < 0 + t → 0 < t * 1
     one t h = omega arith
-negative-fields (suc x) t h = go (eqb (suc x) 2047) (eqb t 0)
+negative-fields (suc x) t h = go (eqb (suc x) topField) (eqb t 0)
   where
-    go : (a b : Bool) → squareRoot binary64 (cond a (cond b (inf true) nan) (odd 53 true (2 ^ 52 + t) x 1074)) ≡ nan
+    go : (a b : Bool) → squareRoot binary64 (cond a (cond b (inf true) nan) (odd 53 true (2 ^ 52 + t) x lowest)) ≡ nan
     go true true = unfold squareRoot in refl
     go true false = unfold squareRoot in refl
-    go false b = below-zero binary64 (odd 53 true (2 ^ 52 + t) x 1074) ((2 ^ 52 + t) * 2 ^ x) (2 ^ 1074) (odd-sign 53 true (2 ^ 52 + t) x 1074) (mul-pos (some t) (pow-pos x))
+    go false b = below-zero binary64 (odd 53 true (2 ^ 52 + t) x lowest) ((2 ^ 52 + t) * 2 ^ x) (2 ^ lowest) (odd-sign 53 true (2 ^ 52 + t) x lowest) (mul-pos (some t) (pow-pos x))
       where
         some : (t : ℕ) → 0 < 2 ^ 52 + t
         some t = omega arith
@@ -63,18 +55,18 @@ negative-law b l h =
     let p : 0 < b % 2 ^ 63 / 2 ^ 52 + b % 2 ^ 52 = omega arith in
     ap (λ (s : Bool). squareRoot binary64 (ofFields binary64 s (b % 2 ^ 63 / 2 ^ 52) (b % 2 ^ 52))) (is-negative b (le-of-lt l)) ∙ negative-fields (b % 2 ^ 63 / 2 ^ 52) (b % 2 ^ 52) p
 
-nan-fields : (x t : ℕ) → x ≡ 2047 → 0 < t → ofFields binary64 false x t ≡ nan
+nan-fields : (x t : ℕ) → x ≡ topField → 0 < t → ofFields binary64 false x t ≡ nan
 unfolding ofFields
 nan-fields zero t h p = absurd (no h)
   where
-    no : _≡_ {A = ℕ} 0 2047 → ⊥
+    no : _≡_ {A = ℕ} 0 topField → ⊥
     no e = omega arith
-nan-fields (suc x) t h p = go (eqb (suc x) 2047) (eqb t 0) (λ (k : eqb (suc x) 2047 ≡ false). true≢false (sym (ap (λ (y : ℕ). eqb y 2047) h) ∙ k)) (eqb→eq t 0)
+nan-fields (suc x) t h p = go (eqb (suc x) topField) (eqb t 0) (λ (k : eqb (suc x) topField ≡ false). true≢false (sym (ap (λ (y : ℕ). eqb y topField) h) ∙ k)) (eqb→eq t 0)
   where
     clash : t ≡ 0 → ⊥
     clash g = omega arith
 
-    go : (a b : Bool) → (a ≡ false → ⊥) → (T b → t ≡ 0) → cond a (cond b (inf false) nan) (odd 53 false (2 ^ 52 + t) x 1074) ≡ nan
+    go : (a b : Bool) → (a ≡ false → ⊥) → (T b → t ≡ 0) → cond a (cond b (inf false) nan) (odd 53 false (2 ^ 52 + t) x lowest) ≡ nan
     go true true n k = absurd (clash (k tt))
     go true false n k = refl
     go false b n k = absurd (n refl)
@@ -83,14 +75,14 @@ of-nan : squareRoot binary64 nan ≡ nan
 unfolding squareRoot
 of-nan = refl
 
-not-a-number : (b : ℕ) → 0x7ff0_0000_0000_0000 < b → b < 2 ^ 63 → squareRoot binary64 (ofBits binary64 b) ≡ nan
+not-a-number : (b : ℕ) → infinityBits < b → b < 2 ^ 63 → squareRoot binary64 (ofBits binary64 b) ≡ nan
 not-a-number b l h =
-    let e : b / 2 ^ 52 ≡ 2047 = omega arith in
+    let e : b / 2 ^ 52 ≡ topField = omega arith in
     let p : 0 < b % 2 ^ 52 = omega arith in
     ap (λ (x : Float). squareRoot binary64 x) (opened b h ∙ nan-fields (b / 2 ^ 52) (b % 2 ^ 52) e p) ∙ of-nan
 
 -- the pattern of what has no root
-pub no-root : (b : ℕ) → 0x7ff0_0000_0000_0000 < b → (b ≡ 2 ^ 63 → ⊥) → b < 2 ^ 64 → squareRoot binary64 (ofBits binary64 b) ≡ nan
+pub no-root : (b : ℕ) → infinityBits < b → (b ≡ 2 ^ 63 → ⊥) → b < 2 ^ 64 → squareRoot binary64 (ofBits binary64 b) ≡ nan
 no-root b l n h = go (leb (2 ^ 63) b) (leb→le (2 ^ 63) b) (nleb→lt (2 ^ 63) b)
   where
     go : (c : Bool) → (T c → 2 ^ 63 ≤ b) → (T (not c) → b < 2 ^ 63) → squareRoot binary64 (ofBits binary64 b) ≡ nan
@@ -111,7 +103,7 @@ pub minus-zero-root : squareRoot binary64 (ofBits binary64 0x8000_0000_0000_0000
 unfolding squareRoot ofBits
 minus-zero-root = refl
 
-pub infinity-root : squareRoot binary64 (ofBits binary64 0x7ff0_0000_0000_0000) ≡ ofBits binary64 0x7ff0_0000_0000_0000
+pub infinity-root : squareRoot binary64 (ofBits binary64 infinityBits) ≡ ofBits binary64 infinityBits
 unfolding squareRoot ofBits
 infinity-root = refl
 

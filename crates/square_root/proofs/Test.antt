@@ -1,5 +1,5 @@
 -- The test of an estimate, over whole numbers. `is_near_root` compares r * (r + 1) with m * 2 ^ 52 by the upper words and by the lower word of the difference; what passes is nearest to the root; and what passes
--- `isRoot` is the pattern of the root, by the law for the digits of a pattern.
+-- `isRoot` is the pattern of the root, by the law for the significand of a pattern.
 use mathlib.Core.Path.{_≡_, refl, sym, ap, _∙_, subst}
 use mathlib.Core.Bool.{Bool, true, false, not}
 use Prim.Native.Nat.{ℕ, _+_, _-_, _*_, _/_, _%_, _^_, _≤_, _<_}
@@ -10,21 +10,23 @@ use lib.Ieee.{Float, binary64, fits, isNan, nanBits, ofBits, toBits}
 use lib.Ieee.Bits.{ofBits-toBits, nanBits-is, nanBits-above, is-false}
 use lib.Ieee.Fits.{and-l, and-r}
 use borrow.Author.Tests.{lt-ltb, le-ltb, le-leb, lt-leb, ltb-true, ltb-false}
-use Rattle.binary64.specs.Pattern.{digitsOf}
-use Rattle.binary64.proofs.Pattern.{digits-high}
+use Rattle.binary64.specs.Pattern.{significandOf}
+use Rattle.binary64.proofs.Pattern.{significand-high}
 use Rattle.binary64.specs.Operations.{squareRoot}
-use Rattle.square_root.specs.Nearest.{NearRoot, Scaled, Digits}
+use Rattle.binary64.specs.Nearest.{NearRoot, Scaled, Digits}
 use Rattle.square_root.specs.Estimate.{isNearRoot, isRoot}
-use Rattle.square_root.proofs.Square.{near-between}
-use Rattle.square_root.proofs.RootPattern.{scaled, root-law}
+use Rattle.binary64.proofs.Root.Squares.{near-between}
+use Rattle.binary64.proofs.Root.Pattern.{scaled, root-law}
+use Rattle.binary64.specs.Format.{bias, infinityBits}
+use Rattle.binary64.proofs.Root.Value.{rootPlace}
 
 -- ---- a pattern
 -- a number's pattern is at most an infinity's, without the sign
-pub number-pattern : (x : Float) → T (fits binary64 x) → T (not (isNan x)) → toBits binary64 x % 2 ^ 63 ≤ 0x7ff0_0000_0000_0000
+pub number-pattern : (x : Float) → T (fits binary64 x) → T (not (isNan x)) → toBits binary64 x % 2 ^ 63 ≤ infinityBits
 number-pattern x f n =
     let b = toBits binary64 x in
     let t : T (not (nanBits binary64 b)) = subst (λ (y : Bool). T (not y)) (sym (nanBits-is binary64 b ∙ ap isNan (ofBits-toBits binary64 x f))) n in
-    ltb-false 0x7ff0_0000_0000_0000 (b % 2 ^ 63) (sym (nanBits-above binary64 b) ∙ is-false (nanBits binary64 b) t)
+    ltb-false infinityBits (b % 2 ^ 63) (sym (nanBits-above binary64 b) ∙ is-false (nanBits binary64 b) t)
 
 -- ---- `is_near_root`, case by case: p is r * (r + 1), n is m * 2 ^ 52, e is the difference of their lower words, and o what it borrows
 -- p and n by their words
@@ -123,7 +125,7 @@ module _ (m r : ℕ) (scaled-m : Scaled m) where
       go false q = q ∙ over (from sum) (more e (ltb-false e (2 * r) q) sum)
 
   -- what passes has 53 digits
-  pub digits-of : n ≤ p → p < n + 2 * r → Digits r
+  digits-of : n ≤ p → p < n + 2 * r → Digits r
   digits-of l h = record { low = lower (ltb r (2 ^ 52)) refl; high = higher (ltb r (2 ^ 53)) refl }
     where
       few : r < 2 ^ 52 → ⊥
@@ -148,17 +150,17 @@ module _ (m r : ℕ) (scaled-m : Scaled m) where
 
 -- ---- `is_root`, by the exponent of the root
 abbrev exponent : ℕ → ℕ
-exponent b = ((b / 2 ^ 52 + 1023) / 2 - 1) * 2 ^ 52
+exponent b = ((b / 2 ^ 52 + bias) / 2 - 1) * 2 ^ 52
 
 abbrev scaledDigits : ℕ → ℕ
-scaledDigits b = (2 ^ 52 + b % 2 ^ 52) * 2 ^ ((b / 2 ^ 52 + 1023) % 2)
+scaledDigits b = (2 ^ 52 + b % 2 ^ 52) * 2 ^ ((b / 2 ^ 52 + bias) % 2)
 
-pub below-exponent : (b c : ℕ) → c < ((b / 2 ^ 52 + 1023) / 2 - 1) * 2 ^ 52 → false ≡ isRoot b c
+pub below-exponent : (b c : ℕ) → c < ((b / 2 ^ 52 + bias) / 2 - 1) * 2 ^ 52 → false ≡ isRoot b c
 unfolding isRoot
 below-exponent b c h = rw (lt-leb (exponent b) c h)
 
-pub from-exponent : (b c : ℕ) → ((b / 2 ^ 52 + 1023) / 2 - 1) * 2 ^ 52 ≤ c
-    → isNearRoot ((2 ^ 52 + b % 2 ^ 52) * 2 ^ ((b / 2 ^ 52 + 1023) % 2) * 2 ^ 52) (c - ((b / 2 ^ 52 + 1023) / 2 - 1) * 2 ^ 52) ≡ isRoot b c
+pub from-exponent : (b c : ℕ) → ((b / 2 ^ 52 + bias) / 2 - 1) * 2 ^ 52 ≤ c
+    → isNearRoot ((2 ^ 52 + b % 2 ^ 52) * 2 ^ ((b / 2 ^ 52 + bias) % 2) * 2 ^ 52) (c - ((b / 2 ^ 52 + bias) / 2 - 1) * 2 ^ 52) ≡ isRoot b c
 unfolding isRoot
 from-exponent b c h = rw (le-leb (exponent b) c h)
 
@@ -168,29 +170,29 @@ unfolding isNearRoot
 between n r t = (leb→le n (r * (r + 1)) (and-l (leb n (r * (r + 1))) (ltb (r * (r + 1)) (n + 2 * r)) t), ltb→lt (r * (r + 1)) (n + 2 * r) (and-r (leb n (r * (r + 1))) (ltb (r * (r + 1)) (n + 2 * r)) t))
 
 -- c less the exponent is nearest to the root of b's digits
-module _ (b c : ℕ) (normal : 2 ^ 52 ≤ b) (fine : b < 0x7ff0_0000_0000_0000) where
+module _ (b c : ℕ) (normal : 2 ^ 52 ≤ b) (fine : b < infinityBits) where
   abbrev r : ℕ
   r = c - exponent b
 
-  unshifted : 2 ^ 52 + b % 2 ^ 52 ≡ digitsOf b * 2 ^ 0
-  unshifted = digits-high b normal ∙ sym (mul-one (digitsOf b))
+  unshifted : 2 ^ 52 + b % 2 ^ 52 ≡ significandOf b * 2 ^ 0
+  unshifted = significand-high b normal ∙ sym (mul-one (significandOf b))
 
   -- `root-law` counts the exponent from another place
   abbrev o : ℕ
   o = b / 2 ^ 52 + 51
 
-  even : (b / 2 ^ 52 + 1023) % 2 ≡ o % 2
+  even : (b / 2 ^ 52 + bias) % 2 ≡ o % 2
   even = omega arith
 
-  again : exponent b ≤ c → (o / 2 + 485) * 2 ^ 52 + r ≡ c
+  again : exponent b ≤ c → (o / 2 + rootPlace) * 2 ^ 52 + r ≡ c
   again h = omega arith
 
   sc : Scaled (scaledDigits b)
-  sc = scaled (2 ^ 52 + b % 2 ^ 52) ((b / 2 ^ 52 + 1023) % 2) (omega arith) (omega arith) (omega arith)
+  sc = scaled (2 ^ 52 + b % 2 ^ 52) ((b / 2 ^ 52 + bias) % 2) (omega arith) (omega arith) (omega arith)
 
   pattern-is : exponent b ≤ c → Digits r → NearRoot (scaledDigits b * 2 ^ 52) r → toBits binary64 (squareRoot binary64 (ofBits binary64 b)) ≡ c
   pattern-is e dg h =
-      let some : 0 < digitsOf b = subst (λ (x : ℕ). 0 < x) (digits-high b normal) (omega arith) in
+      let some : 0 < significandOf b = subst (λ (x : ℕ). 0 < x) (significand-high b normal) (omega arith) in
       root-law b 0 o r fine some (omega arith)
       (subst (λ (x : ℕ). Scaled (x * 2 ^ (o % 2))) unshifted (subst (λ (k : ℕ). Scaled ((2 ^ 52 + b % 2 ^ 52) * 2 ^ k)) even sc)) dg
       (subst (λ (x : ℕ). NearRoot (x * 2 ^ (o % 2) * 2 ^ 52) r) unshifted (subst (λ (k : ℕ). NearRoot ((2 ^ 52 + b % 2 ^ 52) * 2 ^ k * 2 ^ 52) r) even h))

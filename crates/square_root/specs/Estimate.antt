@@ -4,6 +4,7 @@ use mathlib.Core.Bool.{Bool, false, cond, _&&_}
 use Prim.Native.Nat.{ℕ, _+_, _-_, _*_, _/_, _%_, _^_}
 use lib.Dec.{leb, ltb}
 use lib.Ieee.{Float, binary64, ne, toBits}
+use Rattle.binary64.specs.Format.{trailing, bias}
 use Rattle.binary64.specs.Binary64.{_⊕_, _⊖_, _⊗_, _⊘_, bits, half}
 
 -- nearly k / √x, for the x of the pattern b, where k is the cube root of 1/2: half the exponent with its sign turned, then one of Newton's steps, y (3/2 − x y² / 2) k, with constants that
@@ -32,11 +33,11 @@ estimate b =
     corrected x (y ⊗ q) (leadingDigits b (t ⊗ q))
 
 -- the pattern of x without its sign, that of 1 for a NaN; and the estimate from it
-unfoldable pub pattern : Float → ℕ
-pattern x = cond (ne x x) 0x3ff0_0000_0000_0000 (toBits binary64 x % 2 ^ 63)
+unfoldable pub magnitudeOrOne : Float → ℕ
+magnitudeOrOne x = cond (ne x x) 0x3ff0_0000_0000_0000 (toBits binary64 x % 2 ^ 63)
 
-unfoldable pub guess : Float → Float
-guess x = estimate (pattern x)
+unfoldable pub rootEstimate : Float → Float
+rootEstimate x = estimate (magnitudeOrOne x)
 
 -- ---- the test
 -- r is the whole number nearest to the root of n: n ≤ r(r + 1) and r(r − 1) < n
@@ -47,9 +48,9 @@ isNearRoot n r = leb n (r * (r + 1)) && ltb (r * (r + 1)) (n + 2 * r)
 -- place
 unfoldable pub isRoot : ℕ → ℕ → Bool
 isRoot b c =
-    let d = b / 2 ^ 52 + 1023 in
-    let k = (d / 2 - 1) * 2 ^ 52 in
-    leb k c && isNearRoot ((2 ^ 52 + b % 2 ^ 52) * 2 ^ (d % 2) * 2 ^ 52) (c - k)
+    let d = b / 2 ^ trailing + bias in
+    let k = (d / 2 - 1) * 2 ^ trailing in
+    leb k c && isNearRoot ((2 ^ trailing + b % 2 ^ trailing) * 2 ^ (d % 2) * 2 ^ trailing) (c - k)
 
 -- g is a number, and its pattern passes
 unfoldable pub passes : ℕ → Float → Bool

@@ -5,9 +5,16 @@ ghost use mathlib.Core.Path.{_≡_};
 ghost use Prim.Native.Nat.{_+_, _-_, _*_, _/_, _%_, _^_, _≤_, _<_};
 ghost use lib.Dec.{T};
 ghost use lib.Ieee.{binary64, ofBits, toBits};
+ghost use Rattle.binary64.specs.Format.{precision, trailing, infinityBits};
 ghost use Rattle.binary64.specs.Operations as Spec;
 ghost use Rattle.square_root.specs.Estimate as Estimate;
-ghost use Rattle.square_root.specs.Nearest.{NearRoot, Scaled, Digits};
+ghost use Rattle.binary64.specs.Nearest.{NearRoot, Scaled, Digits};
+use binary64::INFINITY_BITS;
+use binary64::LEADING_BIT;
+use binary64::SIGN_BIT;
+
+// What a root's place has beyond half of its square's: (1074 - 2 * 52) / 2, since both count from 2 ^ -1074.
+const ROOT_PLACE: u64 = 485;
 
 // The digits of a number above and below 2^52.
 pub struct Split {
@@ -23,7 +30,7 @@ pub struct Difference {
 
 // q * (q + 1), for q up to 2^53.
 fn pronic(q: u64) -> Split
-    requires { ⌜ q ≤ 2 ^ 53 ⌝ }
+    requires { ⌜ q ≤ 2 ^ precision ⌝ }
     ensures { λ r. ⌜ r .high ≡ q * (q + 1) / 2 ^ 52 ⌝ }
     ensures { λ r. ⌜ r .low ≡ q * (q + 1) % 2 ^ 52 ⌝ }
 {
@@ -31,7 +38,7 @@ fn pronic(q: u64) -> Split
     let low = binary64::low_product(q, q + 1);
     Split {
         high: high * 4096 + (low >> 52),
-        low: low % 0x10_0000_0000_0000,
+        low: low % LEADING_BIT,
     }
 }
 
@@ -69,21 +76,21 @@ fn is_near_root(m: u64, r: u64) -> bool
 // Whether c is the pattern of the root of a normal number's pattern b. c less the exponent of the root
 // has the root's digits only if c has that exponent.
 fn is_root(b: u64, c: u64) -> bool
-    requires { ⌜ (2 ^ 52 ≤ b) × (b < 0x7ff0_0000_0000_0000) ⌝ }
+    requires { ⌜ (2 ^ trailing ≤ b) × (b < infinityBits) ⌝ }
     ensures { λ y. ⌜ y ≡ Estimate.isRoot b c ⌝ }
 {
-    let d = b / 0x10_0000_0000_0000 + 1023;
-    let k = (d / 2 - 1) * 0x10_0000_0000_0000;
+    let d = b / LEADING_BIT + binary64::BIAS;
+    let k = (d / 2 - 1) * LEADING_BIT;
     if c < k {
         return false;
     }
-    let m = (0x10_0000_0000_0000 + b % 0x10_0000_0000_0000) << (d % 2);
+    let m = (LEADING_BIT + b % LEADING_BIT) << (d % 2);
     is_near_root(m, c - k)
 }
 
 // Whether g is the root of the value of a normal number's pattern b.
 fn passes(b: u64, g: f64) -> bool
-    requires { ⌜ (2 ^ 52 ≤ b) × (b < 0x7ff0_0000_0000_0000) ⌝ }
+    requires { ⌜ (2 ^ trailing ≤ b) × (b < infinityBits) ⌝ }
     ensures { λ y. ⌜ y ≡ Estimate.passes b g ⌝ }
     ensures { λ y. ⌜ (T y → g ≡ Spec.sqrt (ofBits binary64 b)) ⌝ }
 {
@@ -96,7 +103,7 @@ fn passes(b: u64, g: f64) -> bool
 // Nearly k / sqrt(x), for the x of the pattern b, where k is the cube root of 1/2: one of Newton's
 // steps.
 fn inverse_root(b: u64) -> f64
-    requires { ⌜ b ≤ 0x7ff0_0000_0000_0000 ⌝ }
+    requires { ⌜ b ≤ infinityBits ⌝ }
     ensures { λ r. ⌜ r ≡ Estimate.inverseRoot b ⌝ }
 {
     let h = f64::from_bits(b) * 0.39685026;
@@ -107,7 +114,7 @@ fn inverse_root(b: u64) -> f64
 // p, nearly the root of the pattern b's value, to 26 digits, whose square is exact. The sum's digits
 // end there.
 fn leading_digits(b: u64, p: f64) -> f64
-    requires { ⌜ b ≤ 0x7ff0_0000_0000_0000 ⌝ }
+    requires { ⌜ b ≤ infinityBits ⌝ }
     ensures { λ r. ⌜ r ≡ Estimate.leadingDigits b p ⌝ }
 {
     let t = f64::from_bits(b / 2 + 0x21a8_0000_0000_0000);
@@ -125,7 +132,7 @@ fn corrected(x: f64, y: f64, s: f64) -> f64
 // Nearly the root of x, and nearly always the nearest float. The second of Newton's steps has no
 // factor at x * y * y, because k is what it is.
 fn estimate(b: u64) -> f64
-    requires { ⌜ b ≤ 0x7ff0_0000_0000_0000 ⌝ }
+    requires { ⌜ b ≤ infinityBits ⌝ }
     ensures { λ r. ⌜ r ≡ Estimate.estimate b ⌝ }
 {
     let x = f64::from_bits(b);
@@ -142,8 +149,8 @@ fn near_root(m: u64) -> u64
     ensures { λ r. ⌜ Digits r ⌝ }
     ensures { λ r. ⌜ NearRoot (m * 2 ^ 52) r ⌝ }
 {
-    let mut r = 0x10_0000_0000_0000u64;
-    let mut w = 0x10_0000_0000_0000u64;
+    let mut r = LEADING_BIT;
+    let mut w = LEADING_BIT;
     for i in 0..52usize {
         w = w / 2;
         if pronic(r + w - 1).high < m {
@@ -155,15 +162,15 @@ fn near_root(m: u64) -> u64
 
 // The root of a pattern that is finite and above zero, as a pattern, digit by digit.
 fn exact_root_bits(b: u64) -> u64
-    requires { ⌜ (0 < b) × (b < 0x7ff0_0000_0000_0000) ⌝ }
-    ensures { λ r. ⌜ r < 0x7ff0_0000_0000_0000 ⌝ }
+    requires { ⌜ (0 < b) × (b < infinityBits) ⌝ }
+    ensures { λ r. ⌜ r < infinityBits ⌝ }
     ensures { λ r. ⌜ r ≡ toBits binary64 (Spec.sqrt (ofBits binary64 b)) ⌝ }
 {
-    let t = binary64::digits(b);
+    let t = binary64::significand(b);
     let z = binary64::shift(t);
-    let d = binary64::place(b) + 52 - z;
+    let d = binary64::exponent(b) + 52 - z;
     let r = near_root((t << z) << (d % 2));
-    (d / 2 + 485) * 0x10_0000_0000_0000 + r
+    (d / 2 + ROOT_PLACE) * LEADING_BIT + r
 }
 
 // The root of x, digit by digit: a NaN for a NaN and for what is below zero, and x itself for a zero
@@ -178,13 +185,13 @@ fn exact_root(x: f64) -> f64
     if b == 0 {
         return x;
     }
-    if b < 0x7ff0_0000_0000_0000 {
+    if b < INFINITY_BITS {
         return f64::from_bits(exact_root_bits(b));
     }
-    if b == 0x7ff0_0000_0000_0000 {
+    if b == INFINITY_BITS {
         return x;
     }
-    if b == 0x8000_0000_0000_0000 {
+    if b == SIGN_BIT {
         return x;
     }
     0.0 / 0.0
@@ -198,8 +205,8 @@ pub fn sqrt(x: f64) -> f64
         return x;
     }
     let b = f64::to_bits(x);
-    if b >= 0x10_0000_0000_0000 {
-        if b < 0x7ff0_0000_0000_0000 {
+    if b >= LEADING_BIT {
+        if b < INFINITY_BITS {
             let r = estimate(b);
             if passes(b, r) {
                 return r;
@@ -212,21 +219,21 @@ pub fn sqrt(x: f64) -> f64
 // ---- many roots: the estimates in one loop without a branch, and then the tests
 
 // The pattern of x without its sign, that of 1 for a NaN.
-fn pattern(x: f64) -> u64
-    ensures { λ r. ⌜ r ≡ Estimate.pattern x ⌝ }
-    ensures { λ r. ⌜ r ≤ 0x7ff0_0000_0000_0000 ⌝ }
+fn magnitude_or_one(x: f64) -> u64
+    ensures { λ r. ⌜ r ≡ Estimate.magnitudeOrOne x ⌝ }
+    ensures { λ r. ⌜ r ≤ infinityBits ⌝ }
 {
     if x != x {
         return 0x3ff0_0000_0000_0000;
     }
-    f64::to_bits(x) % 0x8000_0000_0000_0000
+    f64::to_bits(x) % SIGN_BIT
 }
 
 // Nearly the root of a normal number x, and some number for any other.
-pub fn guess(x: f64) -> f64
-    ensures { λ r. ⌜ r ≡ Estimate.guess x ⌝ }
+pub fn root_estimate(x: f64) -> f64
+    ensures { λ r. ⌜ r ≡ Estimate.rootEstimate x ⌝ }
 {
-    estimate(pattern(x))
+    estimate(magnitude_or_one(x))
 }
 
 // The root of x, whatever g is; sooner if g is the root of a normal number.
@@ -240,8 +247,8 @@ pub fn checked(x: f64, g: f64) -> f64
         return sqrt(x);
     }
     let b = f64::to_bits(x);
-    if b >= 0x10_0000_0000_0000 {
-        if b < 0x7ff0_0000_0000_0000 {
+    if b >= LEADING_BIT {
+        if b < INFINITY_BITS {
             if passes(b, g) {
                 return g;
             }

@@ -10,7 +10,7 @@ use Rattle.tri.specs.declared.quadrature.QuadratureKind.{QuadratureKind}
 use Rattle.tri.specs.declared.quadrature.QuadratureKind.the-variants.{Dunavant1, Dunavant2, Dunavant3, Dunavant4, Dunavant5}
 use Rattle.tri.specs.declared.quadrature.Rule.the-variants.{Known, Unknown}
 
-pub rule-known : (n : ℕ) → NoSuchRule n ⊎ ((kind : QuadratureKind) × (quadratureRule n ≡ Known kind))
+rule-known : (n : ℕ) → NoSuchRule n ⊎ ((kind : QuadratureKind) × (quadratureRule n ≡ Known kind))
 unfolding quadratureRule
 rule-known zero = inl (inl refl)
 rule-known (suc zero) = inr (Dunavant1, refl)
@@ -20,7 +20,7 @@ rule-known (suc (suc (suc (suc zero)))) = inr (Dunavant4, refl)
 rule-known (suc (suc (suc (suc (suc zero))))) = inr (Dunavant5, refl)
 rule-known (suc (suc (suc (suc (suc (suc n)))))) = inl (inr (omega arith))
 
-pub rule-unknown : (n : ℕ) → NoSuchRule n → quadratureRule n ≡ Unknown
+rule-unknown : (n : ℕ) → NoSuchRule n → quadratureRule n ≡ Unknown
 unfolding quadratureRule
 rule-unknown n (inl e) = rw e
 rule-unknown n (inr l) = rw (

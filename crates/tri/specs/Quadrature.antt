@@ -7,19 +7,13 @@ use lib.Dec.{eqb}
 use mathlib.Core.List.{List, [], _∷_}
 use lib.ListN.{getD, length}
 use lib.Ieee.{Float}
-use Rattle.binary64.specs.Binary64.{_⊘_, bits, one, two}
+use Rattle.binary64.specs.Binary64.{_⊘_, bits, one, two, three, six}
 use Rattle.tri.specs.declared.quadrature.QuadratureKind.{QuadratureKind}
 use Rattle.tri.specs.declared.quadrature.QuadratureKind.the-variants.{Dunavant1, Dunavant2, Dunavant3, Dunavant4, Dunavant5}
 use Rattle.tri.specs.declared.quadrature.Rule.{Rule}
 use Rattle.tri.specs.declared.quadrature.Rule.the-variants.{Known, Unknown}
 
 -- ---- the tables' numbers
-abbrev three : Float
-three = bits 0x4008_0000_0000_0000
-
-abbrev six : Float
-six = bits 0x4018_0000_0000_0000
-
 abbrev fortyEight : Float
 fortyEight = bits 0x4048_0000_0000_0000
 
@@ -86,6 +80,10 @@ quadraturePoints Dunavant5 = dunavant5
 
 abbrev pub quadratureCount : QuadratureKind → ℕ
 quadratureCount kind = length (quadraturePoints kind)
+
+-- the most points that a rule has
+abbrev pub maxPoints : ℕ
+maxPoints = 7
 
 abbrev pub quadratureRow : QuadratureKind → ℕ → List Float
 quadratureRow kind k = getD (quadraturePoints kind) k []

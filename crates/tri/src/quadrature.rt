@@ -65,6 +65,9 @@ pub fn quadrature_rule(number: u32) -> Rule
     }
 }
 
+// The most points that a rule has.
+pub const MAX_POINTS: usize = 7;
+
 pub fn quadrature_count(kind: QuadratureKind) -> usize
     ensures { λ r. ⌜ r ≡ Spec.quadratureCount kind ⌝ }
 {

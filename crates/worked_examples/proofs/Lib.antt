@@ -1,2 +1,2 @@
-pub mod Facts
+pub mod Theorems
 pub mod Worst

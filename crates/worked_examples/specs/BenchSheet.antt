@@ -5,7 +5,7 @@ use mathlib.Core.List.{List, [], _∷_}
 use lib.IntN.{pos}
 use lib.ListN.{length}
 use lib.Ieee.{Float, binary64, neg, toBits}
-use Rattle.binary64.specs.Binary64.{_⊕_, _⊖_, bits, plusZero, half, one, two, four}
+use Rattle.binary64.specs.Binary64.{_⊕_, _⊖_, bits, plusZero, half, one, two, four, three, six}
 use Rattle.ieee754.specs.Ieee754.{fma, sqrt}
 use Rattle.math.specs.Math.{Vec}
 use Rattle.tri.specs.Mapping.{Tri}
@@ -24,14 +24,8 @@ use Rattle.display.specs.Display.{displayRefusal, shown}
 abbrev pub small : Float
 small = bits 0x3e10_0000_0000_0000
 
-abbrev pub three : Float
-three = bits 0x4008_0000_0000_0000
-
 abbrev pub five : Float
 five = bits 0x4014_0000_0000_0000
-
-abbrev pub six : Float
-six = bits 0x4018_0000_0000_0000
 
 -- 5.000000000000001, the next number above 5
 abbrev pub aboveFive : Float

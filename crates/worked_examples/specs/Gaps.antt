@@ -10,13 +10,13 @@ use Rattle.elementary.specs.Elementary.{ln, asinh, atan2}
 use Rattle.density_text.specs.Text.{canonicalBits}
 
 -- the place of a bit pattern in the order of the numbers, both zeros at 2^63
-unfoldable pub place : ℕ → ℕ
-place b = cond (ltb b (2 ^ 63)) (2 ^ 63 + b) (2 ^ 64 - b)
+unfoldable pub rank : ℕ → ℕ
+rank b = cond (ltb b (2 ^ 63)) (2 ^ 63 + b) (2 ^ 64 - b)
 
 unfoldable pub gap : Float → Float → ℕ
 gap x y =
-    let a = place (canonicalBits x) in
-    let b = place (canonicalBits y) in
+    let a = rank (canonicalBits x) in
+    let b = rank (canonicalBits y) in
     cond (ltb a b) (b - a) (a - b)
 
 unfoldable pub worse : ℕ → ℕ → ℕ

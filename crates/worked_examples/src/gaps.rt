@@ -4,8 +4,8 @@ ghost use Rattle.worked_examples.specs.Gaps as Spec;
 use density_text::canonical_bits;
 
 // A bit pattern's place in the order of the numbers.
-fn place(b: u64) -> u64
-    ensures { λ r. ⌜ r ≡ Spec.place b ⌝ }
+fn rank(b: u64) -> u64
+    ensures { λ r. ⌜ r ≡ Spec.rank b ⌝ }
 {
     if b < 0x8000_0000_0000_0000 {
         0x8000_0000_0000_0000 + b
@@ -17,8 +17,8 @@ fn place(b: u64) -> u64
 fn gap(x: f64, y: f64) -> u64
     ensures { λ r. ⌜ r ≡ Spec.gap x y ⌝ }
 {
-    let a = place(canonical_bits(x));
-    let b = place(canonical_bits(y));
+    let a = rank(canonical_bits(x));
+    let b = rank(canonical_bits(y));
     if a < b { b - a } else { a - b }
 }
 

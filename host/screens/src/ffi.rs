@@ -141,9 +141,9 @@ bind! {
     mesh_interaction_energy = screens_mesh_interaction_energy(
         map: &[f64], values: &[f64], coefficients: &[f64], value: &mut f64) -> u32;
     matrix_row = screens_matrix_row(
-        matrix: &[f64], n: size, node: size, offset: &mut usize, length: &mut usize) -> u32;
+        matrix: &[f64], n: size, node: size, offset: &mut usize, count: &mut usize) -> u32;
     map_row = screens_map_row(
-        map: &[f64], sources: size, node: size, offset: &mut usize, length: &mut usize) -> u32;
+        map: &[f64], sources: size, node: size, offset: &mut usize, count: &mut usize) -> u32;
 }
 
 // Files and display.

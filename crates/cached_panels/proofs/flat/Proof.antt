@@ -1,6 +1,6 @@
 -- The definition, read off the fields.
 use mathlib.Core.Path.{refl}
-use Rattle.cached_panels.specs.Kept as Spec
+use Rattle.cached_panels.specs.Cache as Spec
 use borrow.Author.Needs.{needs}
 use Rattle.cached_panels.proofs.flat.Statement.{statement}
 use Rattle.cached_panels.proofs.flat.Tie as tie

@@ -1,6 +1,6 @@
 -- The definition.
 use mathlib.Core.Path.{refl}
-use Rattle.cached_panels.specs.Kept as Spec
+use Rattle.cached_panels.specs.Cache as Spec
 use Rattle.cached_panels.proofs.room.Statement.{statement}
 use Rattle.cached_panels.proofs.room.Tie as tie
 

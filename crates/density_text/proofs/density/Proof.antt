@@ -37,21 +37,23 @@ nodal-value-requires-2 c κs =
 
 nodal-value-requires-3 : tie.Need-nodal-value-requires-3
 nodal-value-requires-3 c κs =
-    let s = c .before .before .before .before .before in
+    let c4 = c .before .before .before .before in
+    let s = c4 .before in
     let w = corners-below _ _ _ (s .pre .0) (s .args .i) (s .pre .1) _ (c .before .before .triangle-indices .ensures) in
     (omega (arith, few-nodes _ _ _ (s .pre .0)), omega (arith, few-panels _ _ _ (s .pre .0)), w .2, values-there _ _ _ (s .pre .0))
 
 returns : tie.Need-returns
 unfolding triangleScalars
 returns c =
-    let s = c .before .before .before .before .before .before .before in
+    let c4 = c .before .before .before .before in
+    let s = c4 .before .before .before in
     let v = nodalValues (now (s .args .bytes)) in
-    let e = c .before .before .before .before .triangle-indices .ensures in
+    let e = c4 .triangle-indices .ensures in
     let w = corners-below _ _ _ (s .pre .0) (s .args .i) (s .pre .1) _ e in
     let v0 = c .before .before .before .nodal-value .ensures ∙ value-at _ _ _ (s .pre .0) _ (w .0) ∙ ap (λ (x : List ℕ). at v (getD x 0 0)) e in
     let v1 = c .before .before .nodal-value2 .ensures ∙ value-at _ _ _ (s .pre .0) _ (w .1) ∙ ap (λ (x : List ℕ). at v (getD x 1 0)) e in
     let v2 = c .before .nodal-value3 .ensures ∙ value-at _ _ _ (s .pre .0) _ (w .2) ∙ ap (λ (x : List ℕ). at v (getD x 2 0)) e in
-    c .triangle-current-density .ensures ∙ (λ j. triangleCurrentDensity (c .before .before .before .before .before .triangle-nodes .ensures j) (v0 j ∷ v1 j ∷ v2 j ∷ []))
+    c .triangle-current-density .ensures ∙ (λ j. triangleCurrentDensity (c4 .before .triangle-nodes .ensures j) (v0 j ∷ v1 j ∷ v2 j ∷ []))
 
 pub density-spec : {M : Type 1} → statement M
 density-spec =

@@ -16,10 +16,15 @@ spelled : (c : tie.After-decimal) → take (c .decimal .result) (c .decimal .las
 spelled c = c .decimal .ensures .1 .1 ∙ decimal-is (c .before .before .before .args .n) (c .decimal .result) (c .before .before .before .pre .0) (c .decimal .ensures .1 .0)
 
 put-requires : tie.Need-put-requires
-put-requires c κs = omega (arith, ap length (spelled (c .before .before)), decimal-short (c .before .before .before .before .before .args .n), c .before .before .before .before .before .pre .1)
+put-requires c κs =
+    let c4 = c .before .before .before .before in
+    omega (arith, ap length (spelled (c .before .before)), decimal-short (c4 .before .args .n), c4 .before .pre .1)
 
 returns : tie.Need-returns
-returns c = subst (λ (t : List ℕ). Put (now (c .before .before .before .before .before .before .before .before .args .out)) (c .before .before .before .before .before .before .before .before .args .from) t (c .before .before .put .last .0) (c .before .before .put .result)) (spelled (c .before .before .before .before .before)) (c .before .before .put .ensures)
+returns c =
+    let c4 = c .before .before .before .before in
+    let c8 = c4 .before .before .before .before in
+    subst (λ (t : List ℕ). Put (now (c8 .args .out)) (c8 .args .from) t (c .before .before .put .last .0) (c .before .before .put .result)) (spelled (c4 .before)) (c .before .before .put .ensures)
 
 pub put-decimal-spec : {M : Type 1} → statement M
 put-decimal-spec =

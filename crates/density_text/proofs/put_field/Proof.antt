@@ -22,14 +22,20 @@ spelled c =
     ∙ ap (λ (b : ℕ). digits 16 16 b) (n .ensures)
 
 put-requires-2 : tie.Need-put-requires-2
-put-requires-2 c κs = omega (arith, ap length (spelled (c .before .before .before .before .before .before .before)), digits-length 16 16 (canonicalBits (c .before .before .before .before .before .before .before .before .before .before .before .args .x)), c .before .before .before .before .put .ensures .behind, c .before .before .before .before .put .kept .0, c .before .before .before .before .before .before .before .before .before .before .before .pre)
+put-requires-2 c κs =
+    let c4 = c .before .before .before .before in
+    let c8 = c4 .before .before .before .before in
+    omega (arith, ap length (spelled (c4 .before .before .before)), digits-length 16 16 (canonicalBits (c8 .before .before .before .args .x)), c4 .put .ensures .behind, c4 .put .kept .0, c8 .before .before .before .pre)
 
 returns : tie.Need-returns
 unfolding field
 returns c =
-    let s = c .before .before .before .before .before .before .before .before .before .before .before .before .before .before in
-    let second = subst (λ (t : List ℕ). Put (c .before .before .before .before .before .before .before .put .last .0) (c .before .before .before .before .before .before .before .put .result) t (c .before .before .put2 .last .0) (c .before .before .put2 .result)) (spelled (c .before .before .before .before .before .before .before .before .before .before)) (c .before .before .put2 .ensures) in
-    both (now (s .args .out)) (s .args .from) (32 ∷ []) _ _ _ _ _ (omega (arith, s .pre)) (c .before .before .before .before .before .before .before .put .ensures) second
+    let c4 = c .before .before .before .before in
+    let c8 = c4 .before .before .before .before in
+    let c12 = c8 .before .before .before .before in
+    let s = c12 .before .before in
+    let second = subst (λ (t : List ℕ). Put (c4 .before .before .before .put .last .0) (c4 .before .before .before .put .result) t (c .before .before .put2 .last .0) (c .before .before .put2 .result)) (spelled (c8 .before .before)) (c .before .before .put2 .ensures) in
+    both (now (s .args .out)) (s .args .from) (32 ∷ []) _ _ _ _ _ (omega (arith, s .pre)) (c4 .before .before .before .put .ensures) second
 
 pub put-field-spec : {M : Type 1} → statement M
 put-field-spec =

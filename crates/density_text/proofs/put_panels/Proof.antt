@@ -32,10 +32,12 @@ loop-holds c = let s = c .before .before in (omega arith, refl, none (now (s .ar
 loop-again : tie.Need-loop-again Inv-loop μ-loop
 unfolding panelLine
 loop-again c =
-    let s = c .before .before .before .before .before .before .before .before .before in
-    let l = c .before .before .before .before .before .before .loop in
+    let c4 = c .before .before .before .before in
+    let c8 = c4 .before .before .before .before in
+    let s = c8 .before in
+    let l = c4 .before .before .loop in
     let b = now (s .args .bytes) in
-    let h : l .i < s .args .p = omega (arith, c .before .before .before .before .before .loop-test .taken) in
+    let h : l .i < s .args .p = omega (arith, c4 .before .loop-test .taken) in
     let one = subst (λ (j : List Float). Put (l .out) (l .to) (line (l .i) j) (c .before .before .put-panel .last .0) (c .before .before .put-panel .result)) (c .before .before .before .density .ensures) (c .before .before .put-panel .ensures) in
     let two = both (now (s .args .out)) (s .args .from) (rowsFrom (panelLine b) 0 (l .i)) (l .out) (l .to) (panelLine b (l .i)) _ _ (omega (arith, h, s .pre .2, short b (l .i))) (l .inv .2) one in
     (omega (arith, h), c .before .before .put-panel .kept .0 ∙ l .inv .1, subst (λ (t : List ℕ). Put (now (s .args .out)) (s .args .from) t (c .before .before .put-panel .last .0) (c .before .before .put-panel .result)) (more-lines (panelLine b) (l .i)) two)
@@ -51,11 +53,15 @@ returns c =
     subst (λ (k : ℕ). Put (now (s .args .out)) (s .args .from) (rowsFrom (panelLine (now (s .args .bytes))) 0 k) (l .out) (l .to)) e (l .inv .2)
 
 density-requires : tie.Need-density-requires Inv-loop μ-loop
-density-requires c κs = let s = c .before .before .before .before .before in (s .pre .0, omega arith)
+density-requires c κs =
+    let c4 = c .before .before .before .before in
+    let s = c4 .before in
+    (s .pre .0, omega arith)
 
 put-panel-requires : tie.Need-put-panel-requires Inv-loop μ-loop
 put-panel-requires c κs =
-    let s = c .before .before .before .before .before .before in
+    let c4 = c .before .before .before .before in
+    let s = c4 .before .before in
     let l = c .before .before .before .loop in
     let h : l .i < s .args .p = omega (arith, c .before .before .loop-test .taken) in
     (omega (arith, h, s .pre .1), omega (arith, h, s .pre .2, l .inv .1, l .inv .2 .behind, short (now (s .args .bytes)) (l .i)))

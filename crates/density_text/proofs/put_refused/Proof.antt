@@ -16,23 +16,29 @@ put-requires c κs =
 
 put-decimal-requires : tie.Need-put-decimal-requires
 put-decimal-requires c κs =
-    let s = c .before .before .before .before .before .before .before in
+    let c4 = c .before .before .before .before in
+    let s = c4 .before .before .before in
     let a = c .before .before .before .put in
     (omega (arith, s .pre), omega (arith, s .pre))
 
 put-requires-2 : tie.Need-put-requires-2
 put-requires-2 c κs =
-    let s = c .before .before .before .before .before .before .before .before .before .before .before .before in
-    let a = c .before .before .before .before .before .before .before .before .put in
-    let b = c .before .before .before .before .put-decimal in
+    let c4 = c .before .before .before .before in
+    let c8 = c4 .before .before .before .before in
+    let s = c8 .before .before .before .before in
+    let a = c8 .put in
+    let b = c4 .put-decimal in
     omega (arith, s .pre, decimal-short (s .args .refusal))
 
 returns : tie.Need-returns
 unfolding refusedLine
 returns c =
-    let s = c .before .before .before .before .before .before .before .before .before .before .before .before .before .before .before in
-    let a = c .before .before .before .before .before .before .before .before .before .before .before .put in
-    let b = c .before .before .before .before .before .before .before .put-decimal in
+    let c4 = c .before .before .before .before in
+    let c8 = c4 .before .before .before .before in
+    let c12 = c8 .before .before .before .before in
+    let s = c12 .before .before .before in
+    let a = c8 .before .before .before .put in
+    let b = c4 .before .before .before .put-decimal in
     let d = c .before .before .put2 in
     both (now (s .args .out)) 0 (114 ∷ 101 ∷ 102 ∷ 117 ∷ 115 ∷ 101 ∷ 100 ∷ 32 ∷ []) _ _ _ _ _ (omega (arith, s .pre, decimal-short (s .args .refusal))) (a .ensures)
     (both (a .last .0) (a .result) (decimal (s .args .refusal)) _ _ _ _ _ (omega (arith, s .pre, decimal-short (s .args .refusal))) (b .ensures)

@@ -1,4 +1,4 @@
--- The size is worked out from the pattern of |x|: its digits and its place give `SizeIs`, and each exit says on which side of a bound that size lies.
+-- The size is worked out from the pattern of |x|: its significand and its exponent give `SizeIs`, and each exit says on which side of a bound that size lies.
 use mathlib.Core.Path.{_≡_, sym, ap, _∙_, subst}
 use mathlib.Core.Bool.{false}
 use Prim.Native.Nat.{ℕ, _*_, _^_}
@@ -7,7 +7,7 @@ use borrow.Author.Tests.{lt-ltb}
 use lib.Dec.{T}
 use lib.Ieee.{binary64, fits, isNan, toBits}
 use mir.Facts.{toZ-ofZ}
-use Rattle.binary64.specs.Pattern.{digitsOf, placeOf}
+use Rattle.binary64.specs.Pattern.{significandOf, exponentOf}
 use Rattle.ieee754.proofs.Signs.{no-nan}
 use Rattle.display.specs.Display as Spec
 use Rattle.display.proofs.Range.{SizeIs, Pattern, from-pattern, too-large, too-small, pattern, number-of-size, not-a-number, refused, accepted, no-sign}
@@ -22,17 +22,17 @@ held c = subst T (sym (c .good .0 .1)) tt
 is-number : (c : tie.Else1) → isNan (c .before .before .args .x) ≡ false
 is-number c = sym (c .before .is-nan .ensures) ∙ c .if1 .left
 
-known : (c : tie.After-place) → Pattern (c .before .before .before .before .args .x) (toBits binary64 (c .before .abs .result))
+known : (c : tie.After-exponent) → Pattern (c .before .before .before .before .args .x) (toBits binary64 (c .before .abs .result))
 known c = pattern _ _ (c .before .abs .ensures) (held (c .before .before .before .before)) (is-number (c .before .before))
 
--- the size that the pattern's digits and place give
-sized : (c : tie.Else2) → SizeIs (c .before .before .before .before .before .args .x) (Spec.nanohenries (digitsOf (toBits binary64 (c .before .before .abs .result)) * 2 ^ placeOf (toBits binary64 (c .before .before .abs .result))) (2 ^ 1074))
+-- the size that the pattern's significand and exponent give
+sized : (c : tie.Else2) → let c4 = c .before .before .before .before in SizeIs (c4 .before .args .x) (Spec.nanohenries (significandOf (toBits binary64 (c .before .before .abs .result)) * 2 ^ exponentOf (toBits binary64 (c .before .before .abs .result))) (2 ^ 1074))
 sized c = from-pattern _ _ (known (c .before) .stands) (omega arith)
 
-computed : (c : tie.After-nanohenries) → SizeIs (c .before .before .before .before .before .before .before .before .args .x) (c .nanohenries .result)
+computed : (c : tie.After-nanohenries) → let c4 = c .before .before .before .before in let c8 = c4 .before .before .before .before in SizeIs (c8 .args .x) (c .nanohenries .result)
 computed c =
     let p = c .before .before .before .before in
-    let e = c .nanohenries .ensures ∙ (λ i. Spec.nanohenries (c .before .digits .ensures .0 i * 2 ^ p .place .ensures i) (2 ^ 1074)) in
+    let e = c .nanohenries .ensures ∙ (λ i. Spec.nanohenries (c .before .significand .ensures .0 i * 2 ^ p .exponent .ensures i) (2 ^ 1074)) in
     subst (λ (n : ℕ). SizeIs (p .before .before .before .before .args .x) n) (sym e) (sized (c .before .before .before))
 
 returns : tie.Need-returns
@@ -48,9 +48,10 @@ returns-2 c =
 
 returns-3 : tie.Need-returns-3
 returns-3 c =
+    let c4 = c .before .before .before .before in
     let b = toBits binary64 (c .before .before .before .abs .result) in
     let s = sized (c .before) in
-    accepted _ 0 _ (subst (λ (n : ℕ). SizeIs (c .before .before .before .before .before .before .args .x) n) (too-small b (omega arith)) s) (omega arith) (no-sign _)
+    accepted _ 0 _ (subst (λ (n : ℕ). SizeIs (c4 .before .before .args .x) n) (too-small b (omega arith)) s) (omega arith) (no-sign _)
 
 returns-4 : tie.Need-returns-4
 returns-4 c = refused _ (computed (c .before) .range ∙ lt-ltb _ _ (c .if4 .taken))

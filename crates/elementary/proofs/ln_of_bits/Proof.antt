@@ -1,4 +1,4 @@
--- The shifted digits and their place are the mantissa and the exponent of the pattern’s value (`pattern-parts`); then the two cases of `lnReduced`.
+-- The shifted significand and its exponent are the mantissa and the exponent of the pattern’s value (`pattern-parts`); then the two cases of `lnReduced`.
 use borrow.Author.Needs.{needs}
 use mathlib.Core.Path.{sym}
 use Prim.Native.Nat.{_+_, _-_, _*_, _^_}
@@ -13,11 +13,11 @@ float-from-bits-m : tie.Need-float-from-bits-m
 float-from-bits-m c = no-nan _ (omega arith)
 
 -- m and e, as the code has them
-parts : (c : tie.After-place) → Parts (ofBits binary64 (c .before .before .before .args .b)) (c .before .before .digits .result * 2 ^ c .before .shift .result) (c .place .result + 52 - c .before .shift .result)
+parts : (c : tie.After-exponent) → Parts (ofBits binary64 (c .before .before .before .args .b)) (c .before .before .significand .result * 2 ^ c .before .shift .result) (c .exponent .result + 52 - c .before .shift .result)
 parts c =
-    let d = c .before .before .digits in
+    let d = c .before .before .significand in
     let h = c .before .shift in
-    pattern-parts (c .before .before .before .args .b) (d .result) (c .place .result) (h .result) (c .before .before .before .pre .1) (d .ensures .0) (c .place .ensures) (h .ensures .1 .0) (h .ensures .1 .1) (h .ensures .0)
+    pattern-parts (c .before .before .before .args .b) (d .result) (c .exponent .result) (h .result) (c .before .before .before .pre .1) (d .ensures .0) (c .exponent .ensures) (h .ensures .1 .0) (h .ensures .1 .1) (h .ensures .0)
 
 returns : tie.Need-returns
 returns c = rw (c .ln-at .ensures, c .before .float-exponent .ensures) (sym (ln-halved _ _ _ (parts (c .before .before .before)) (c .before .before .if1 .taken)))

@@ -5,8 +5,9 @@ use Prim.Native.Nat.{_<_}
 use native.Mathlib.Omega.{arith}
 use lib.Ieee.{isNan}
 use Rattle.binary64.specs.Binary64.{at}
+use Rattle.lists.proofs.Counting.{none-at}
 use Rattle.elementary_lanes.specs.Lanes as Lanes
-use Rattle.elementary_lanes.proofs.Arctangent.{angle-is, none-nan}
+use Rattle.elementary_lanes.proofs.Arctangent.{angle-is}
 use Rattle.elementary_lanes.proofs.atan2s.Statement.{statement}
 use Rattle.elementary_lanes.proofs.atan2s.Tie as tie
 
@@ -20,7 +21,7 @@ returns-2 c i h =
     let x = at (c1 .before .args .x) i in
     let m : i < 8 = omega (arith, h) in
     let r : at (c3 .angles .result) i ≡ Lanes.angle y x = c3 .angles .ensures i m ∙ (λ j. Lanes.angle (c1 .padded .ensures i h j) (c2 .padded2 .ensures i h j)) in
-    let n : isNan (at (c3 .angles .result) i) ≡ false = none-nan 7 (c3 .angles .result) (sym (c4 .has-nan .ensures) ∙ b .if1 .left) i h in
+    let n : isNan (at (c3 .angles .result) i) ≡ false = none-at _ 7 i (sym (c4 .has-nan .ensures) ∙ b .if1 .left) h in
     c .front .ensures i h ∙ r ∙ angle-is y x (ap isNan (sym r) ∙ n)
 
 pub atan2s-spec : {M : Type 1} → statement M

@@ -15,8 +15,8 @@ use Rattle.elementary_lanes.proofs.ln_1p.Tie as tie
 float-to-bits-b : tie.Need-float-to-bits-b
 float-to-bits-b c = no-nan (c .from-one .result) (c .from-one .ensures .1)
 
-exponent-requires : tie.Need-exponent-requires
-exponent-requires c κs =
+float-exponent-requires : tie.Need-float-exponent-requires
+float-exponent-requires c κs =
     let f = c .before .before in
     let w = f .before .args .w in
     let h : toBits binary64 (f .from-one .result) < 2 ^ 64 = subst (λ (y : Float). toBits binary64 y < 2 ^ 64) (sym (f .from-one .ensures .0)) (pattern-lt w) in
@@ -29,9 +29,9 @@ returns c =
     let c1 = c2 .before in
     let w = c1 .before .args .w in
     let b = toBits binary64 (Lanes.fromOne (one ⊕ w)) in
-    rw (c .select5 .ensures, c9 .not-a-number .ensures, c8 .select4 .ensures, c7 .twice-artanh .ensures, c6 .select3 .ensures, c5 .select2 .ensures, c4 .exponent .ensures, c3 .select .ensures, c2 .significand .ensures, c1 .from-one .ensures .0)
+    rw (c .select5 .ensures, c9 .not-a-number .ensures, c8 .select4 .ensures, c7 .twice-artanh .ensures, c6 .select3 .ensures, c5 .select2 .ensures, c4 .float-exponent .ensures, c3 .select .ensures, c2 .mantissa-of-bits .ensures, c1 .from-one .ensures .0)
     (ap (λ (r : Float). cond (le one (one ⊕ w) && le (one ⊕ w) Lanes.twoTo31) r nan)
-    (one-division (le w Spec.C) (lt Spec.sqrt2 (Lanes.significand b)) w (Lanes.significand b) (b / 2 ^ 52)))
+    (one-division (le w Spec.C) (lt Spec.sqrt2 (Lanes.mantissaOfBits b)) w (Lanes.mantissaOfBits b) (b / 2 ^ 52)))
 
 pub ln-1p-spec : {M : Type 1} → statement M
-ln-1p-spec = tie.close (tie.spec (λ c κs. tt) float-to-bits-b (λ c κs. tt) (λ c κs. tt) exponent-requires (λ c κs. tt) (λ c κs. tt) (λ c κs. tt) (λ c κs. tt) (λ c κs. tt) (λ c κs. tt) returns)
+ln-1p-spec = tie.close (tie.spec (λ c κs. tt) float-to-bits-b (λ c κs. tt) (λ c κs. tt) float-exponent-requires (λ c κs. tt) (λ c κs. tt) (λ c κs. tt) (λ c κs. tt) (λ c κs. tt) (λ c κs. tt) returns)

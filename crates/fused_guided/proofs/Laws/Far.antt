@@ -11,21 +11,21 @@ use lib.Pow.{pow-add, pow-pos}
 use lib.Ieee.{Float, binary64, unlike, round, sum, add, fits, toBits}
 use lib.Ieee.Exact.{HasValue}
 use Rattle.fused_integer.specs.Jam.{Jam}
-use Rattle.fused_guided.specs.Guided.{Rest}
+use Rattle.fused_guided.specs.Guided.{Residual, cutBias}
 use Rattle.binary64.specs.Operations.{fma}
-use Rattle.fused_integer.proofs.Laws.Jam.{jam-add, jam-sub, sub-mul}
-use Rattle.fused_integer.proofs.Laws.Meaning.{sum-alike, sum-less, sum-more}
-use Rattle.fused_integer.proofs.Laws.Value.{signOf, fma-values, add-units}
-use Rattle.fused_guided.proofs.Laws.Guided.{normal-value, digits-ge, digits-lt, product-lt, product-units, units-shift, shift-ge, shift-even}
-use Rattle.fused_guided.proofs.Laws.Rest.{jam-round}
+use Rattle.fused_integer.proofs.Laws.Jam.{jam-add, jam-sub}
+use Rattle.binary64.proofs.Values.{sub-mul, add-units}
+use Rattle.binary64.proofs.Sums.{sum-alike, sum-less, sum-more}
+use Rattle.binary64.proofs.Reading.{signOf}
+use Rattle.fused_guided.proofs.Laws.Terms.{Terms, terms, fma-terms, significand-ge, units-shift, shift-ge, shift-even}
+use Rattle.fused_guided.proofs.Laws.Residual.{jam-round}
 use Rattle.fused_guided.proofs.Laws.Tests.{Far}
+use Rattle.binary64.specs.Format.{lowest, quantumBias}
+use Rattle.binary64.specs.Nearest.{den}
 
 -- ---- the sum of z and the product, in units of 2 ^ b: a is z's digits above the cut, p the product and f what is left of it
 
 module _ (a p f b : ℕ) (even : a % 2 ≡ 0) (big : 2 ^ 61 ≤ a) (small : f < 2 ^ 51) (less : p < 2 ^ 106) (j : Jam p (2 ^ 55) f) where
-  abbrev den : ℕ
-  den = 2 ^ (1074 + 1074)
-
   p-below : p < a * 2 ^ 55
   p-below = lt-of-lt-of-le less (le-trans (lib.Dec.lit≤ tt) (mul-le-mul-right (2 ^ 55) big))
 
@@ -62,7 +62,7 @@ module _ (a p f b : ℕ) (even : a % 2 ≡ 0) (big : 2 ^ 61 ≤ a) (small : f < 
       least a f h k = omega arith
 
   -- n is the product's sign, u is z's
-  pub far-sum : (n u : Bool) → sum binary64 n (p * 2 ^ b) u (a * 2 ^ 55 * 2 ^ b) den ≡ sum binary64 u (a * 2 ^ 55 * 2 ^ b) n (f * 2 ^ 55 * 2 ^ b) den
+  far-sum : (n u : Bool) → sum binary64 n (p * 2 ^ b) u (a * 2 ^ 55 * 2 ^ b) den ≡ sum binary64 u (a * 2 ^ 55 * 2 ^ b) n (f * 2 ^ 55 * 2 ^ b) den
   far-sum n u = go n u
     where
       P : ℕ
@@ -99,59 +99,30 @@ module _ (x y z : Float) (FX : T (fits binary64 x)) (FY : T (fits binary64 y)) (
   w = 2 ^ 52 + toBits binary64 z % 2 ^ 52
 
   abbrev i : ℕ
-  i = ez + 1020 - (ex + ey)
+  i = ez + cutBias - (ex + ey)
 
-  some : (e : ℕ) → 768 ≤ e → 1 ≤ e
-  some e h = omega arith
+  over : i + 55 + (ex + ey) ≡ ez + quantumBias
+  over = omega (arith, ok .above)
 
-  few : (e : ℕ) → e < 1280 → e < 2047
-  few e h = omega arith
+  parts : Terms x y z ex ey ez (i + 55) u v w
+  parts = terms x y z FX FY FZ ex ey ez (i + 55) u v w EX EY EZ (ok .factors) over (ok .finite-z) U Y refl
 
-  some-z : (x y z : ℕ) → 768 ≤ x → 768 ≤ y → x + y ≤ z + 1011 → 1 ≤ z
-  some-z x y z h k l = omega arith
+  above-cut : w * 2 ^ (i + 55) ≡ w * 2 ^ i * 2 ^ 55
+  above-cut = ap (λ (q : ℕ). w * q) (pow-add 2 i 55) ∙ sym (mul-assoc w (2 ^ i) (2 ^ 55))
 
-  value-x : HasValue x (signOf x) (u * 2 ^ (ex - 1)) (2 ^ 1074)
-  value-x = normal-value x ex u FX EX (some ex (ok .low-x)) (few ex (ok .high-x)) U
-
-  value-y : HasValue y (signOf y) (v * 2 ^ (ey - 1)) (2 ^ 1074)
-  value-y = normal-value y ey v FY EY (some ey (ok .low-y)) (few ey (ok .high-y)) Y
-
-  value-z : HasValue z (signOf z) (w * 2 ^ (ez - 1)) (2 ^ 1074)
-  value-z = normal-value z ez w FZ EZ (some-z ex ey ez (ok .low-x) (ok .low-y) (ok .above)) (ok .finite-z) refl
-
-  p-units : u * 2 ^ (ex - 1) * (v * 2 ^ (ey - 1)) ≡ u * v * 2 ^ b
-  p-units = product-units u v ex ey (some ex (ok .low-x)) (some ey (ok .low-y))
-
-  z-units : w * 2 ^ (ez - 1) * 2 ^ 1074 ≡ w * 2 ^ i * 2 ^ 55 * 2 ^ b
-  z-units =
-      units-shift w (ez - 1) 1074 (i + 55) b (places ex ey ez (ok .low-x) (ok .low-y) (ok .above))
-      ∙ ap (λ (q : ℕ). q * 2 ^ b) (ap (λ (q : ℕ). w * q) (pow-add 2 i 55) ∙ sym (mul-assoc w (2 ^ i) (2 ^ 55)))
-    where
-      places : (x y z : ℕ) → 768 ≤ x → 768 ≤ y → x + y ≤ z + 1011 → z - 1 + 1074 ≡ z + 1020 - (x + y) + 55 + (x + y - 2)
-      places x y z h k l = omega arith
-
-  cut-units : (f : ℕ) → f * 2 ^ (ex + ey - 1020 - 1) * 2 ^ 1074 ≡ f * 2 ^ 55 * 2 ^ b
-  cut-units f = units-shift f (ex + ey - 1020 - 1) 1074 55 b (places ex ey (ok .low-x) (ok .low-y))
-    where
-      places : (x y : ℕ) → 768 ≤ x → 768 ≤ y → x + y - 1020 - 1 + 1074 ≡ 55 + (x + y - 2)
-      places x y h k = omega arith
+  cut-units : (f : ℕ) → f * 2 ^ (ex + ey - cutBias - 1) * 2 ^ lowest ≡ f * 2 ^ 55 * 2 ^ b
+  cut-units f = units-shift f (ex + ey - cutBias - 1) lowest 55 b (omega (arith, ok .factors .low-x, ok .factors .low-y))
 
   z-even : w * 2 ^ i % 2 ≡ 0
-  z-even = shift-even w i (one-place ex ey ez (ok .above))
-    where
-      one-place : (x y z : ℕ) → x + y ≤ z + 1011 → 1 ≤ z + 1020 - (x + y)
-      one-place x y z l = omega arith
+  z-even = shift-even w i (omega (arith, ok .above))
 
   z-big : 2 ^ 61 ≤ w * 2 ^ i
-  z-big = shift-ge w i 61 (digits-ge (toBits binary64 z) w refl) (room ex ey ez (ok .above))
-    where
-      room : (x y z : ℕ) → x + y ≤ z + 1011 → 61 ≤ 52 + (z + 1020 - (x + y))
-      room x y z l = omega arith
+  z-big = shift-ge w i 61 (significand-ge (toBits binary64 z) w refl) (omega (arith, ok .above))
 
   -- the product has digits above the cut
-  pub cut-some : (f : ℕ) → Jam (u * v) (2 ^ 55) f → 0 < f
+  cut-some : (f : ℕ) → Jam (u * v) (2 ^ 55) f → 0 < f
   cut-some f j =
-      go f (lt-of-le-of-lt (least v (digits-ge (toBits binary64 y) v Y)) (lt-of-le-of-lt (mul-le-mul-right v (digits-ge (toBits binary64 x) u U)) (j .above)))
+      go f (lt-of-le-of-lt (least v (significand-ge (toBits binary64 y) v Y)) (lt-of-le-of-lt (mul-le-mul-right v (significand-ge (toBits binary64 x) u U)) (j .above)))
     where
       least : (v : ℕ) → 2 ^ 52 ≤ v → 2 ^ 104 ≤ 2 ^ 52 * v
       least v h = omega arith
@@ -160,18 +131,16 @@ module _ (x y z : Float) (FX : T (fits binary64 x)) (FY : T (fits binary64 y)) (
       go f h = omega arith
 
   pub far-law : (n : Bool) (f : ℕ) (d : Float) → n ≡ unlike (signOf x) (signOf y) → Jam (u * v) (2 ^ 55) f → f < 2 ^ 51
-      → Rest n d (2 ^ 51 + f) (ex + ey - 1020) → add binary64 z d ≡ fma x y z
+      → Residual n d (2 ^ 51 + f) (ex + ey - cutBias) → add binary64 z d ≡ fma x y z
   far-law n f d N j F rest =
-      let den₂ = 2 ^ (1074 + 1074) in
-      let value-d : HasValue d n (f * 2 ^ (ex + ey - 1020 - 1)) (2 ^ 1074) =
-      subst (λ (q : ℕ). HasValue d n (q * 2 ^ (ex + ey - 1020 - 1)) (2 ^ 1074)) (size f) (rest .plus (above f (cut-some f j))) in
-      add-units z d (signOf z) n (w * 2 ^ (ez - 1)) (f * 2 ^ (ex + ey - 1020 - 1)) (w * 2 ^ i * 2 ^ 55 * 2 ^ b) (f * 2 ^ 55 * 2 ^ b) value-z value-d z-units
-      (cut-units f)
-      ∙ sym (far-sum (w * 2 ^ i) (u * v) f b z-even z-big F (product-lt u v (digits-lt (toBits binary64 x) u U) (digits-lt (toBits binary64 y) v Y)) j n (signOf z))
-      ∙ ap (λ (q : ℕ). sum binary64 n q (signOf z) (w * 2 ^ i * 2 ^ 55 * 2 ^ b) den₂) (sym p-units)
-      ∙ ap (λ (q : ℕ). sum binary64 n (u * 2 ^ (ex - 1) * (v * 2 ^ (ey - 1))) (signOf z) q den₂) (sym z-units)
-      ∙ ap (λ (q : Bool). sum binary64 q (u * 2 ^ (ex - 1) * (v * 2 ^ (ey - 1))) (signOf z) (w * 2 ^ (ez - 1) * 2 ^ 1074) den₂) N
-      ∙ fma-values x y z (signOf x) (signOf y) (signOf z) (u * 2 ^ (ex - 1)) (v * 2 ^ (ey - 1)) (w * 2 ^ (ez - 1)) value-x value-y value-z
+      let value-d : HasValue d n (f * 2 ^ (ex + ey - cutBias - 1)) (2 ^ lowest) =
+      subst (λ (q : ℕ). HasValue d n (q * 2 ^ (ex + ey - cutBias - 1)) (2 ^ lowest)) (size f) (rest .plus (above f (cut-some f j))) in
+      add-units z d (signOf z) n (w * 2 ^ (ez - 1)) (f * 2 ^ (ex + ey - cutBias - 1)) (w * 2 ^ i * 2 ^ 55 * 2 ^ b) (f * 2 ^ 55 * 2 ^ b) (parts .value-z) value-d
+      (parts .addend ∙ ap (λ (q : ℕ). q * 2 ^ b) above-cut) (cut-units f)
+      ∙ sym (far-sum (w * 2 ^ i) (u * v) f b z-even z-big F (parts .small) j n (signOf z))
+      ∙ ap (λ (q : ℕ). sum binary64 n (u * v * 2 ^ b) (signOf z) (q * 2 ^ b) den) (sym above-cut)
+      ∙ ap (λ (q : Bool). sum binary64 q (u * v * 2 ^ b) (signOf z) (w * 2 ^ (i + 55) * 2 ^ b) den) N
+      ∙ fma-terms x y z ex ey ez (i + 55) u v w parts
     where
       above : (f : ℕ) → 0 < f → 2 ^ 51 < 2 ^ 51 + f
       above f h = omega arith

@@ -2,92 +2,86 @@
 -- to.
 use mathlib.Core.Path.{_≡_, refl, sym, subst}
 use mathlib.Core.Bool.{Bool, true, false, _&&_}
-use Prim.Native.Nat.{ℕ, _+_, _*_, _^_, _≤_, _<_}
+use Prim.Native.Nat.{ℕ, suc, _+_, _*_, _^_, _≤_, _<_}
 use lib.Dec.{T, leb, ltb, leb→le, ltb→lt, le→leb, lt→ltb}
 use lib.Ieee.Fits.{and-l, and-r, and-i}
 use lib.Ieee.Bits.{is-true}
-use Rattle.fused_guided.specs.Guided.{central, usable, farAbove, leads}
+use Rattle.fused_guided.specs.Guided.{central, inReach, farAbove, leads, centralFrom, centralTo, leadingPlace, wordBias}
+use Rattle.binary64.specs.Format.{topField}
 
-pub record Central (e : ℕ) : Type 0 where
-  pub low : 768 ≤ e
-  pub high : e < 1280
+-- both factors' fields are central
+pub record Factors (ex ey : ℕ) : Type 0 where
+  pub low-x : centralFrom ≤ ex
+  pub high-x : ex < centralTo
+  pub low-y : centralFrom ≤ ey
+  pub high-y : ey < centralTo
 
-pub central-is : (e : ℕ) → T (central e) → Central e
-central-is e t = record { low = leb→le 768 e (and-l (leb 768 e) (ltb e 1280) t); high = ltb→lt e 1280 (and-r (leb 768 e) (ltb e 1280) t) }
+factors-is : (ex ey : ℕ) → T (central ex && central ey) → Factors ex ey
+factors-is ex ey t =
+    let x = and-l (central ex) (central ey) t in
+    let y = and-r (central ex) (central ey) t in
+    record {
+      low-x = leb→le centralFrom ex (and-l (leb centralFrom ex) (ltb ex centralTo) x);
+      high-x = ltb→lt ex centralTo (and-r (leb centralFrom ex) (ltb ex centralTo) x);
+      low-y = leb→le centralFrom ey (and-l (leb centralFrom ey) (ltb ey centralTo) y);
+      high-y = ltb→lt ey centralTo (and-r (leb centralFrom ey) (ltb ey centralTo) y);
+    }
 
-pub record Usable (ex ey k s : ℕ) : Type 0 where
-  pub low-x : 768 ≤ ex
-  pub high-x : ex < 1280
-  pub low-y : 768 ≤ ey
-  pub high-y : ey < 1280
+pub record Reach (least ex ey k s : ℕ) : Type 0 where
+  pub factors : Factors ex ey
   pub near-z : k < 64
-  pub some : 1 ≤ s
+  pub some : least ≤ s
   pub near-t : s < 63
 
-pub usable-is : (ex ey k s : ℕ) → usable ex ey k s ≡ true → Usable ex ey k s
-usable-is ex ey k s e =
-    let t : T (usable ex ey k s) = subst T (sym e) tt in
-    let f = and-l (central ex && central ey) (ltb k 64 && (leb 1 s && ltb s 63)) t in
-    let g = and-r (central ex && central ey) (ltb k 64 && (leb 1 s && ltb s 63)) t in
-    let x = central-is ex (and-l (central ex) (central ey) f) in
-    let y = central-is ey (and-r (central ex) (central ey) f) in
-    let h = and-r (ltb k 64) (leb 1 s && ltb s 63) g in
+pub reach-is : (least ex ey k s : ℕ) → inReach least ex ey k s ≡ true → Reach least ex ey k s
+reach-is least ex ey k s e =
+    let t : T (inReach least ex ey k s) = subst T (sym e) tt in
+    let g = and-r (central ex && central ey) (ltb k 64 && (leb least s && ltb s 63)) t in
+    let h = and-r (ltb k 64) (leb least s && ltb s 63) g in
     record {
-      low-x = x .low;
-      high-x = x .high;
-      low-y = y .low;
-      high-y = y .high;
-      near-z = ltb→lt k 64 (and-l (ltb k 64) (leb 1 s && ltb s 63) g);
-      some = leb→le 1 s (and-l (leb 1 s) (ltb s 63) h);
-      near-t = ltb→lt s 63 (and-r (leb 1 s) (ltb s 63) h);
+      factors = factors-is ex ey (and-l (central ex && central ey) (ltb k 64 && (leb least s && ltb s 63)) t);
+      near-z = ltb→lt k 64 (and-l (ltb k 64) (leb least s && ltb s 63) g);
+      some = leb→le least s (and-l (leb least s) (ltb s 63) h);
+      near-t = ltb→lt s 63 (and-r (leb least s) (ltb s 63) h);
     }
 
 pub record Far (ex ey ez : ℕ) : Type 0 where
-  pub low-x : 768 ≤ ex
-  pub high-x : ex < 1280
-  pub low-y : 768 ≤ ey
-  pub high-y : ey < 1280
-  pub finite-z : ez < 2047
-  pub above : ex + ey ≤ ez + 1011
+  pub factors : Factors ex ey
+  pub finite-z : ez < topField
+  pub above : ex + ey ≤ ez + wordBias
 
 pub far-is : (ex ey ez : ℕ) → farAbove ex ey ez ≡ true → Far ex ey ez
 far-is ex ey ez e =
     let t : T (farAbove ex ey ez) = subst T (sym e) tt in
-    let f = and-l (central ex && central ey) (ltb ez 2047 && leb (ex + ey) (ez + 1011)) t in
-    let g = and-r (central ex && central ey) (ltb ez 2047 && leb (ex + ey) (ez + 1011)) t in
-    let x = central-is ex (and-l (central ex) (central ey) f) in
-    let y = central-is ey (and-r (central ex) (central ey) f) in
+    let g = and-r (central ex && central ey) (ltb ez topField && leb (ex + ey) (ez + wordBias)) t in
     record {
-      low-x = x .low;
-      high-x = x .high;
-      low-y = y .low;
-      high-y = y .high;
-      finite-z = ltb→lt ez 2047 (and-l (ltb ez 2047) (leb (ex + ey) (ez + 1011)) g);
-      above = leb→le (ex + ey) (ez + 1011) (and-r (ltb ez 2047) (leb (ex + ey) (ez + 1011)) g);
+      factors = factors-is ex ey (and-l (central ex && central ey) (ltb ez topField && leb (ex + ey) (ez + wordBias)) t);
+      finite-z = ltb→lt ez topField (and-l (ltb ez topField) (leb (ex + ey) (ez + wordBias)) g);
+      above = leb→le (ex + ey) (ez + wordBias) (and-r (ltb ez topField) (leb (ex + ey) (ez + wordBias)) g);
     }
 
 -- ---- where the leading digit is
 
-pub leads-no : (x s : ℕ) → (2 ^ 116 ≤ x * 2 ^ s → x * 2 ^ s < 2 ^ 117 → ⊥) → leads x s ≡ false
+pub leads-no : (x s : ℕ) → (2 ^ leadingPlace ≤ x * 2 ^ s → x * 2 ^ s < 2 ^ suc leadingPlace → ⊥) → leads x s ≡ false
 unfolding leads
 leads-no x s h =
-    go (leb (2 ^ 116) (x * 2 ^ s)) (ltb (x * 2 ^ s) (2 ^ 117)) (leb→le (2 ^ 116) (x * 2 ^ s)) (ltb→lt (x * 2 ^ s) (2 ^ 117))
+    go (leb (2 ^ leadingPlace) (x * 2 ^ s)) (ltb (x * 2 ^ s) (2 ^ suc leadingPlace)) (leb→le (2 ^ leadingPlace) (x * 2 ^ s)) (ltb→lt (x * 2 ^ s) (2 ^ suc leadingPlace))
   where
-    go : (a b : Bool) → (T a → 2 ^ 116 ≤ x * 2 ^ s) → (T b → x * 2 ^ s < 2 ^ 117) → (a && b) ≡ false
+    go : (a b : Bool) → (T a → 2 ^ leadingPlace ≤ x * 2 ^ s) → (T b → x * 2 ^ s < 2 ^ suc leadingPlace) → (a && b) ≡ false
     go true true p q = absurd (h (p tt) (q tt))
     go true false p q = refl
     go false b p q = refl
 
-pub leads-yes : (x s : ℕ) → 2 ^ 116 ≤ x * 2 ^ s → x * 2 ^ s < 2 ^ 117 → leads x s ≡ true
+pub leads-yes : (x s : ℕ) → 2 ^ leadingPlace ≤ x * 2 ^ s → x * 2 ^ s < 2 ^ suc leadingPlace → leads x s ≡ true
 unfolding leads
 leads-yes x s lo hi =
-    is-true (leb (2 ^ 116) (x * 2 ^ s) && ltb (x * 2 ^ s) (2 ^ 117))
-    (and-i (leb (2 ^ 116) (x * 2 ^ s)) (ltb (x * 2 ^ s) (2 ^ 117)) (le→leb (2 ^ 116) (x * 2 ^ s) lo) (lt→ltb (x * 2 ^ s) (2 ^ 117) hi))
+    is-true (leb (2 ^ leadingPlace) (x * 2 ^ s) && ltb (x * 2 ^ s) (2 ^ suc leadingPlace))
+    (and-i (leb (2 ^ leadingPlace) (x * 2 ^ s)) (ltb (x * 2 ^ s) (2 ^ suc leadingPlace)) (le→leb (2 ^ leadingPlace) (x * 2 ^ s) lo) (lt→ltb (x * 2 ^ s) (2 ^ suc leadingPlace) hi))
 
-pub leads-low : (x s : ℕ) → leads x s ≡ true → 2 ^ 116 ≤ x * 2 ^ s
+pub leads-low : (x s : ℕ) → leads x s ≡ true → 2 ^ leadingPlace ≤ x * 2 ^ s
 unfolding leads
-leads-low x s e = leb→le (2 ^ 116) (x * 2 ^ s) (and-l (leb (2 ^ 116) (x * 2 ^ s)) (ltb (x * 2 ^ s) (2 ^ 117)) (subst T (sym e) tt))
+leads-low x s e = leb→le (2 ^ leadingPlace) (x * 2 ^ s) (and-l (leb (2 ^ leadingPlace) (x * 2 ^ s)) (ltb (x * 2 ^ s) (2 ^ suc leadingPlace)) (subst T (sym e) tt))
 
-pub leads-high : (x s : ℕ) → leads x s ≡ true → x * 2 ^ s < 2 ^ 117
+pub leads-high : (x s : ℕ) → leads x s ≡ true → x * 2 ^ s < 2 ^ suc leadingPlace
 unfolding leads
-leads-high x s e = ltb→lt (x * 2 ^ s) (2 ^ 117) (and-r (leb (2 ^ 116) (x * 2 ^ s)) (ltb (x * 2 ^ s) (2 ^ 117)) (subst T (sym e) tt))
+leads-high x s e = ltb→lt (x * 2 ^ s) (2 ^ suc leadingPlace) (and-r (leb (2 ^ leadingPlace) (x * 2 ^ s)) (ltb (x * 2 ^ s) (2 ^ suc leadingPlace)) (subst T (sym e) tt))

@@ -8,10 +8,12 @@ use mir.Facts.{fits-below}
 use borrow.Author.Needs.{needs}
 use borrow.Author.Tests.{not-true, not-false}
 use Rattle.fused_guided.specs.Guided.{leads, signedSum, usable}
-use Rattle.fused_guided.proofs.Laws.Tests.{Usable, usable-is}
-use Rattle.fused_guided.proofs.Laws.Guided.{bits-law, exact-of, guided-is, guided-no, guided-sig, sig-le, digits-lt, field-lt, exponent-some, exponent-room}
+use Rattle.fused_guided.proofs.Laws.Tests.{Reach, reach-is}
+use Rattle.fused_guided.proofs.Laws.Terms.{significand-lt, field-lt}
+use Rattle.fused_guided.proofs.Laws.Guided.{bits-law, exact-of, guided-is, guided-no, guided-sig, sig-le, exponent-some, exponent-room}
 use Rattle.fused_guided.proofs.guided_bits.Statement.{statement}
 use Rattle.fused_guided.proofs.guided_bits.Tie as tie
+use Rattle.binary64.specs.Format.{infinityBits}
 
 returns : tie.Need-returns
 returns c =
@@ -30,18 +32,18 @@ returns c =
       λ e. absurd (false≢true (sym (c .refused .ensures .0) ∙ e)),
     )
 
-usable-there : (e : tie.Else1) → usable (e .before .before .before .before .before .before .before .field .result)
-    (e .before .before .before .before .before .before .field2 .result)
+usable-there : (e : tie.Else1) → let e4 = e .before .before .before .before in usable (e4 .before .before .before .field .result)
+    (e4 .before .before .field2 .result)
     (e .before .before .before .wrapping-sub-u64 .result) (e .before .before .wrapping-sub-u642 .result) ≡ true
 usable-there e = sym (e .before .usable .ensures) ∙ not-false (e .before .usable .result) (e .if1 .left)
 
-ok-there : (e : tie.Else1) → Usable (e .before .before .before .before .before .before .before .field .result)
-    (e .before .before .before .before .before .before .field2 .result)
+ok-there : (e : tie.Else1) → let e4 = e .before .before .before .before in Reach 1 (e4 .before .before .before .field .result)
+    (e4 .before .before .field2 .result)
     (e .before .before .before .wrapping-sub-u64 .result) (e .before .before .wrapping-sub-u642 .result)
 ok-there e =
     let e1 = e .before in let e2 = e1 .before in let e3 = e2 .before in let e4 = e3 .before in let e5 = e4 .before in
     let e6 = e5 .before in let e7 = e6 .before in
-    usable-is (e7 .field .result) (e6 .field2 .result) (e3 .wrapping-sub-u64 .result) (e2 .wrapping-sub-u642 .result) (usable-there e)
+    reach-is 1 (e7 .field .result) (e6 .field2 .result) (e3 .wrapping-sub-u64 .result) (e2 .wrapping-sub-u642 .result) (usable-there e)
 
 guided-sum-requires : tie.Need-guided-sum-requires
 guided-sum-requires c κs =
@@ -49,8 +51,8 @@ guided-sum-requires c κs =
     let b6 = b5 .before in let b7 = b6 .before in let b8 = b7 .before in let b9 = b8 .before in let b10 = b9 .before in
     let s = b10 .before .before .before .before .before .before .before .before in
     let ok = ok-there b10 in (
-      (digits-lt (s .args .bx) (b4 .digits .result) (b4 .digits .ensures), digits-lt (s .args .by) (b3 .digits2 .result) (b3 .digits2 .ensures)),
-      ((digits-lt (s .args .bz) (c .digits3 .result) (c .digits3 .ensures), ok .near-z), (ok .some, ok .near-t)),
+      (significand-lt (s .args .bx) (b4 .normal-significand .result) (b4 .normal-significand .ensures), significand-lt (s .args .by) (b3 .normal-significand2 .result) (b3 .normal-significand2 .ensures)),
+      ((significand-lt (s .args .bz) (c .normal-significand3 .result) (c .normal-significand3 .ensures), ok .near-z), (ok .some, ok .near-t)),
     )
 
 sub-signed : tie.Need-sub-signed
@@ -65,7 +67,7 @@ sub-signed c =
 
 room-there : (c : tie.After-struct-known)
     → (c .before .before .before .before .before .before .before .before .before .before .before .before .before .before .before .before
-    .field4 .result - 1) * 2 ^ 52 + c .before .guided-sum .result .sig ≤ 2047 * 2 ^ 52
+    .field4 .result - 1) * 2 ^ 52 + c .before .guided-sum .result .sig ≤ infinityBits
 room-there c =
     let b1 = c .before in let b2 = b1 .before in let b3 = b2 .before in let b4 = b3 .before in let b5 = b4 .before in
     let b6 = b5 .before in let b7 = b6 .before in let b8 = b7 .before in let b9 = b8 .before in let b10 = b9 .before in
@@ -75,8 +77,8 @@ room-there c =
     exponent-room (e7 .field .result) (e6 .field2 .result) (e3 .wrapping-sub-u64 .result) (e2 .wrapping-sub-u642 .result) (e4 .field4 .result) (e8 .args .bt)
     (ok-there b12) (e4 .field4 .ensures) (e2 .wrapping-sub-u642 .ensures) (b1 .guided-sum .result .sig)
     (sig-le (b1 .guided-sum .result .ok)
-    (signedSum (b7 .opposite2 .result) (b6 .digits .result * b5 .digits2 .result) (b3 .opposite3 .result)
-    (b2 .digits3 .result * 2 ^ e3 .wrapping-sub-u64 .result))
+    (signedSum (b7 .opposite2 .result) (b6 .normal-significand .result * b5 .normal-significand2 .result) (b3 .opposite3 .result)
+    (b2 .normal-significand3 .result * 2 ^ e3 .wrapping-sub-u64 .result))
     (e2 .wrapping-sub-u642 .result) (b1 .guided-sum .result .sig) (b1 .guided-sum .ensures .0) (b1 .guided-sum .ensures .1))
 
 add-signed : tie.Need-add-signed
@@ -103,9 +105,9 @@ returns-2 c =
     let np = b9 .opposite in
     let cp = b8 .opposite2 in
     let cz = b4 .opposite3 in
-    let u = b7 .digits in
-    let v = b6 .digits2 in
-    let w = b3 .digits3 in
+    let u = b7 .normal-significand in
+    let v = b6 .normal-significand2 in
+    let w = b3 .normal-significand3 in
     let g = b2 .guided-sum in
     let x = signedSum (cp .result) (u .result * v .result) (cz .result) (w .result * 2 ^ k .result) in (
       g .ensures .0

@@ -7,7 +7,7 @@ use native.Mathlib.Omega.{arith}
 use native.Mathlib.Nat.{lt-of-lt-of-le}
 use lib.Dec.{lit≤}
 use borrow.Author.Needs.{needs}
-use Rattle.fused_guided.specs.Guided.{signedSum, SignedWords, significand}
+use Rattle.fused_guided.specs.Guided.{signedSum, SignedWords, roundedSignificand}
 use Rattle.fused_guided.proofs.Laws.Guided.{product-high, shift-small, below-pow, sum-high, sum-other, sum-leads, sum-near}
 use Rattle.fused_guided.proofs.guided_sum.Statement.{statement}
 use Rattle.fused_guided.proofs.guided_sum.Tie as tie
@@ -41,7 +41,8 @@ words c =
 
 shift-more-requires : tie.Need-shift-more-requires
 shift-more-requires c κs =
-    let s = c .before .before .before .before .before in
+    let c4 = c .before .before .before .before in
+    let s = c4 .before in
     ((s .pre .1 .1 .0, less (s .args .s) (s .pre .1 .1 .1)), below-pow (c .before .before .signed-sum .result .hi) (64 - s .args .s) (c .if1 .left))
   where
     less : (s : ℕ) → s < 63 → s < 64
@@ -55,7 +56,7 @@ returns c =
     (d .signed-sum .result .lo) (s .pre .1 .1 .0) (s .pre .1 .1 .1) (words d) (c .before .if1 .taken) in (
       c .refused .ensures .0 ∙ sym no,
       c .refused .ensures .1 ∙ sym
-          (ap (λ (b : Bool). cond b (significand (signedSum (s .args .cp) (s .args .u * s .args .v) (s .args .cz) (s .args .w * 2 ^ s .args .k))
+          (ap (λ (b : Bool). cond b (roundedSignificand (signedSum (s .args .cp) (s .args .u * s .args .v) (s .args .cz) (s .args .w * 2 ^ s .args .k))
           (s .args .s)) 0) (c .refused .ensures .0)),
     )
 
@@ -70,7 +71,7 @@ returns-2 c =
     (c .before .if2 .taken) in (
       c .refused2 .ensures .0 ∙ sym no,
       c .refused2 .ensures .1 ∙ sym
-          (ap (λ (b : Bool). cond b (significand (signedSum (s .args .cp) (s .args .u * s .args .v) (s .args .cz) (s .args .w * 2 ^ s .args .k))
+          (ap (λ (b : Bool). cond b (roundedSignificand (signedSum (s .args .cp) (s .args .u * s .args .v) (s .args .cz) (s .args .w * 2 ^ s .args .k))
           (s .args .s)) 0) (c .refused2 .ensures .0)),
     )
 

@@ -6,13 +6,15 @@ use Rattle.fused_guided.proofs.signed_sum.Tie as tie
 
 returns : tie.Need-returns
 returns c =
-    let s = c .before .before .before .before .before .before .before .before .before .before in
-    let al = c .before .before .before .before .before .before .before .before .before .turn in
-    let cl = c .before .before .before .before .before .before .before .before .turn2 in
-    let a = c .before .before .before .before .before .before .before .carry-add in
-    let ah = c .before .before .before .before .before .before .turn3 in
-    let ch = c .before .before .before .before .before .turn4 in
-    let h = c .before .before .before .before .carry-add2 in
+    let c4 = c .before .before .before .before in
+    let c8 = c4 .before .before .before .before in
+    let s = c8 .before .before in
+    let al = c8 .before .turn in
+    let cl = c8 .turn2 in
+    let a = c4 .before .before .before .carry-add in
+    let ah = c4 .before .before .turn3 in
+    let ch = c4 .before .turn4 in
+    let h = c4 .carry-add2 in
     let g = c .before .before .before .carry-add3 in
     let o = c .before .before .opposite in
     let hi = c .before .turn5 in

@@ -1,7 +1,7 @@
 -- Where z is far above the product, `far-law`; else the integer form. e1 and on are the places before the test.
 use mathlib.Core.Path.{_≡_, sym, ap, _∙_, subst}
 use mathlib.Core.Bool.{Bool}
-use Prim.Native.Nat.{ℕ, _+_, _-_, _^_, _≤_, _<_}
+use Prim.Native.Nat.{ℕ, _+_, _^_, _≤_, _<_}
 use native.Mathlib.Omega.{arith}
 use mir.Facts.{fits-below}
 use borrow.Author.Needs.{needs}
@@ -9,12 +9,14 @@ use borrow.Author.Tests.{not-false}
 use lib.Dec.{T}
 use lib.Ieee.{binary64, fits, unlike, toBits}
 use Rattle.fused_integer.specs.Jam.{Jam}
-use Rattle.fused_integer.proofs.Laws.Value.{signOf}
+use Rattle.binary64.proofs.Reading.{signOf}
 use Rattle.fused_guided.proofs.Laws.Tests.{Far, far-is}
-use Rattle.fused_guided.proofs.Laws.Guided.{digits-lt, field-lt, product-high}
+use Rattle.fused_guided.proofs.Laws.Terms.{RestPlace, rest-place, significand-lt, field-lt}
+use Rattle.fused_guided.proofs.Laws.Guided.{product-high}
 use Rattle.fused_guided.proofs.Laws.Far.{far-law}
 use Rattle.fused_guided.proofs.unguided.Statement.{statement}
 use Rattle.fused_guided.proofs.unguided.Tie as tie
+use Rattle.fused_guided.specs.Guided.{cutBias}
 
 held-x : (c : tie.Start) → T (fits binary64 (c .args .x))
 held-x c = subst T (sym (c .good .0 .1)) tt
@@ -45,7 +47,9 @@ far-above-requires c κs =
     )
 
 fused-numbers-requires : tie.Need-fused-numbers-requires
-fused-numbers-requires c κs = c .before .before .before .before .before .pre
+fused-numbers-requires c κs =
+    let c4 = c .before .before .before .before in
+    c4 .before .pre
 
 returns : tie.Need-returns
 returns c = c .fused-numbers .ensures
@@ -58,52 +62,44 @@ ok-there e =
 
 jam-product-requires : tie.Need-jam-product-requires
 jam-product-requires c κs =
-    let s = c .before .before .before .before .before .before .before .before in
-    let u = c .before .before .digits in
-    let v = c .before .digits2 in
-    product-high (u .result) (v .result) (c .product .result .hi) (c .product .result .lo) (digits-lt (toBits binary64 (s .args .x)) (u .result) (u .ensures))
-    (digits-lt (toBits binary64 (s .args .y)) (v .result) (v .ensures)) (c .product .ensures)
+    let c4 = c .before .before .before .before in
+    let c8 = c4 .before .before .before .before in
+    let s = c8 in
+    let u = c .before .before .normal-significand in
+    let v = c .before .normal-significand2 in
+    product-high (u .result) (v .result) (c .product .result .hi) (c .product .result .lo) (significand-lt (toBits binary64 (s .args .x)) (u .result) (u .ensures))
+    (significand-lt (toBits binary64 (s .args .y)) (v .result) (v .ensures)) (c .product .ensures)
 
-add-rest-float : tie.Need-add-rest-float
-add-rest-float c = fits-below tt (most (c .before .before .before .jam-product .result) (c .before .before .before .jam-product .ensures .1))
+add-residual-float : tie.Need-add-residual-float
+add-residual-float c = fits-below tt (most (c .before .before .before .jam-product .result) (c .before .before .before .jam-product .ensures .1))
   where
     most : (f : ℕ) → f < 2 ^ 51 → 2 ^ 51 + f ≤ 2 ^ 52
     most f h = omega arith
 
-add-rest-float-2 : tie.Need-add-rest-float-2
-add-rest-float-2 c =
-    let e = c .before .before .before .before .before .before .before in
-    fits-below tt
-    (most (e .before .before .before .before .field .result) (e .before .before .before .field2 .result) (ok-there e .high-x) (ok-there e .high-y))
-  where
-    most : (e d : ℕ) → e < 1280 → d < 1280 → e + d ≤ 2560
-    most e d h k = omega arith
+-- the exponent of the product's digits above the cut
+rest-there : (e : tie.Else1) → RestPlace cutBias (e .before .before .before .before .field .result) (e .before .before .before .field2 .result)
+rest-there e =
+    rest-place cutBias (e .before .before .before .before .field .result) (e .before .before .before .field2 .result) (lib.Dec.lit≤ tt) (lib.Dec.lit< tt)
+    (ok-there e .factors)
 
-sub-rest-float : tie.Need-sub-rest-float
-sub-rest-float c =
-    let e = c .before .before .before .before .before .before .before in
-    less (e .before .before .before .before .field .result) (e .before .before .before .field2 .result) (ok-there e .low-x) (ok-there e .low-y)
-  where
-    less : (e d : ℕ) → 768 ≤ e → 768 ≤ d → 1020 ≤ e + d
-    less e d h k = omega arith
+add-residual-float-2 : tie.Need-add-residual-float-2
+add-residual-float-2 c =
+    let c4 = c .before .before .before .before in
+    fits-below tt (rest-there (c4 .before .before .before) .top)
 
-rest-float-requires : tie.Need-rest-float-requires
-rest-float-requires c κs =
+sub-residual-float : tie.Need-sub-residual-float
+sub-residual-float c =
+    let c4 = c .before .before .before .before in
+    rest-there (c4 .before .before .before) .low
+
+residual-float-requires : tie.Need-residual-float-requires
+residual-float-requires c κs =
     let j = c .before .before .before in
-    let e = j .before .before .before .before in
-    let x = e .before .before .before .before .field .result in
-    let y = e .before .before .before .field2 .result in
-    let ok = ok-there e in
-    (above (j .jam-product .result) (j .jam-product .ensures .1), (some x y (ok .low-x) (ok .low-y), most x y (ok .high-x) (ok .high-y)))
+    let r = rest-there (j .before .before .before .before) in
+    (above (j .jam-product .result) (j .jam-product .ensures .1), (r .some, r .most))
   where
     above : (f : ℕ) → f < 2 ^ 51 → 2 ^ 51 + f < 2 ^ 52
     above f h = omega arith
-
-    some : (e d : ℕ) → 768 ≤ e → 768 ≤ d → 1 ≤ e + d - 1020
-    some e d h k = omega arith
-
-    most : (e d : ℕ) → e < 1280 → d < 1280 → e + d - 1020 < 2000
-    most e d h k = omega arith
 
 returns-2 : tie.Need-returns-2
 returns-2 c =
@@ -116,14 +112,14 @@ returns-2 c =
     ∙ ap (λ (w : Bool). unlike (signOf (e5 .args .x)) w) (b2 .minus-sign2 .ensures) in
     let f = b4 .jam-product .result in
     far-law (e5 .args .x) (e5 .args .y) (e5 .args .z) (held-x e5) (held-y e5) (held-z e5) (e4 .field .result) (e3 .field2 .result) (e2 .field3 .result)
-    (b7 .digits .result) (b6 .digits2 .result) (e4 .field .ensures) (e3 .field2 .ensures) (e2 .field3 .ensures) (ok-there b8) (b7 .digits .ensures)
-    (b6 .digits2 .ensures)
-    (b1 .opposite .result) f (c .rest-float .result) sign (subst (λ (w : ℕ). Jam w (2 ^ 55) f) (b5 .product .ensures) (b4 .jam-product .ensures .0))
-    (b4 .jam-product .ensures .1) (c .rest-float .ensures)
+    (b7 .normal-significand .result) (b6 .normal-significand2 .result) (e4 .field .ensures) (e3 .field2 .ensures) (e2 .field3 .ensures) (ok-there b8) (b7 .normal-significand .ensures)
+    (b6 .normal-significand2 .ensures)
+    (b1 .opposite .result) f (c .residual-float .result) sign (subst (λ (w : ℕ). Jam w (2 ^ 55) f) (b5 .product .ensures) (b4 .jam-product .ensures .0))
+    (b4 .jam-product .ensures .1) (c .residual-float .ensures)
 
 pub unguided-spec : {M : Type 1} → statement M
 unguided-spec =
     tie.close
     (tie.spec float-to-bits-bx float-to-bits-by (search needs) (search needs) float-to-bits-field (search needs) far-above-requires
     fused-numbers-requires returns (search needs) (search needs) (search needs) jam-product-requires (search needs) (search needs)
-    (search needs) add-rest-float add-rest-float-2 sub-rest-float rest-float-requires returns-2)
+    (search needs) add-residual-float add-residual-float-2 sub-residual-float residual-float-requires returns-2)

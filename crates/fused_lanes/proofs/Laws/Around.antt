@@ -11,12 +11,12 @@ use lib.Pow.{pow-add, pow-pos}
 use lib.Ieee.{Float, binary64, unlike, round, sum}
 use lib.Ieee.Exact.{HasValue}
 use Rattle.binary64.specs.Binary64.{_⊕_, _⊖_, _⊗_}
-use Rattle.fused_integer.proofs.Laws.Once.{den, RoundedOnce, sum-once}
-use Rattle.fused_integer.proofs.Laws.Value.{add-units, sub-values, sum-same}
-use Rattle.fused_integer.proofs.Laws.Meaning.{sum-more, sum-none}
-use Rattle.fused_multiply_add.proofs.Laws.Error.{product-round}
-use Rattle.fused_integer.proofs.Laws.Jam.{sub-mul}
-use Rattle.fused_lanes.proofs.Laws.Rounded.{Rounded, wide, rounded}
+use Rattle.binary64.specs.Nearest.{den, RoundedOnce}
+use Rattle.binary64.proofs.Once.{sum-once}
+use Rattle.binary64.proofs.Values.{add-units, sub-values, sum-same, product-round, sub-mul}
+use Rattle.binary64.proofs.Sums.{sum-more, sum-none}
+use Rattle.fused_lanes.proofs.Laws.Rounded.{Rounded, wide, rounded, placeTop}
+use Rattle.binary64.specs.Format.{lowest}
 
 -- the two parts of ±n
 abbrev pub plus : Bool → ℕ → ℕ
@@ -32,11 +32,11 @@ Apart p n P N d = (p + N ≤ P + n + d) × (P + n ≤ p + N + d)
 pub record Around (f : Float) (P N d : ℕ) : Type 0 where
   pub negative : Bool
   pub units : ℕ
-  pub value : HasValue f negative units (2 ^ 1074)
-  pub near : Apart (plus negative (units * 2 ^ 1074)) (minus negative (units * 2 ^ 1074)) P N d
+  pub value : HasValue f negative units (2 ^ lowest)
+  pub near : Apart (plus negative (units * 2 ^ lowest)) (minus negative (units * 2 ^ lowest)) P N d
 
-pub of-value : (f : Float) (n : ℕ) → HasValue f false n (2 ^ 1074) → Around f (n * 2 ^ 1074) 0 0
-of-value f n h = record { negative = false; units = n; value = h; near = own (n * 2 ^ 1074) }
+pub of-value : (f : Float) (n : ℕ) → HasValue f false n (2 ^ lowest) → Around f (n * 2 ^ lowest) 0 0
+of-value f n h = record { negative = false; units = n; value = h; near = own (n * 2 ^ lowest) }
   where
     own : (x : ℕ) → Apart x 0 x 0 0
     own x = omega arith
@@ -47,7 +47,7 @@ around-same f P N d P' N' d' e l h =
       negative = h .negative;
       units = h .units;
       value = h .value;
-      near = move (plus (h .negative) (h .units * 2 ^ 1074)) (minus (h .negative) (h .units * 2 ^ 1074)) P N d P' N' d' e l (h .near);
+      near = move (plus (h .negative) (h .units * 2 ^ lowest)) (minus (h .negative) (h .units * 2 ^ lowest)) P N d P' N' d' e l (h .near);
     }
   where
     move : (p n P N d P' N' d' : ℕ) → P + N' ≡ P' + N → d ≤ d' → Apart p n P N d → Apart p n P' N' d'
@@ -69,8 +69,8 @@ sum-near false v x u p n p' n' P N d P' N' d' e g h a b = omega arith
 
 -- the exact sum lies between −2 ^ (54 + i) and 2 ^ (54 + i), errors included
 pub record Small (P N d i : ℕ) : Type 0 where
-  pub low : 1074 ≤ i
-  pub high : i ≤ 3000
+  pub low : lowest ≤ i
+  pub high : i ≤ placeTop
   pub upper : P + d < N + 2 ^ (54 + i)
   pub lower : N + d < P + 2 ^ (54 + i)
 
@@ -84,16 +84,16 @@ once-around r s t a b P N d P' N' d' i o g h w =
     record {
       negative = o .negative;
       units = k .units;
-      value = subst (λ (x : Float). HasValue x (o .negative) (k .units) (2 ^ 1074)) (sym (o .rounded)) (k .value);
+      value = subst (λ (x : Float). HasValue x (o .negative) (k .units) (2 ^ lowest)) (sym (o .rounded)) (k .value);
       near =
-          sum-near (o .negative) v (k .units * 2 ^ 1074) (2 ^ i) (plus s a) (minus s a) (plus t b) (minus t b) P N d P' N' d' (o .exact) g h (k .upper) (k .lower);
+          sum-near (o .negative) v (k .units * 2 ^ lowest) (2 ^ i) (plus s a) (minus s a) (plus t b) (minus t b) P N d P' N' d' (o .exact) g h (k .upper) (k .lower);
     }
 
 module _ (f g : Float) (P N d P' N' d' i : ℕ) (F : Around f P N d) (G : Around g P' N' d') where
   pub sum-around : Small (P + P') (N + N') (d + d') i → Around (f ⊕ g) (P + P') (N + N') (d + d' + 2 ^ i)
   sum-around w =
-      let a = F .units * 2 ^ 1074 in
-      let b = G .units * 2 ^ 1074 in
+      let a = F .units * 2 ^ lowest in
+      let b = G .units * 2 ^ lowest in
       once-around (f ⊕ g) (F .negative) (G .negative) a b P N d P' N' d' i
       (subst (λ (r : Float). RoundedOnce r (F .negative) a (G .negative) b den)
       (sym (add-units f g (F .negative) (G .negative) (F .units) (G .units) a b (F .value) (G .value) refl refl))
@@ -101,11 +101,11 @@ module _ (f g : Float) (P N d P' N' d' i : ℕ) (F : Around f P N d) (G : Around
 
 -- ---- differences
 
-sub-units : (x y : Float) (s t : Bool) (a b : ℕ) → HasValue x s a (2 ^ 1074) → HasValue y t b (2 ^ 1074)
-    → x ⊖ y ≡ sum binary64 s (a * 2 ^ 1074) (not t) (b * 2 ^ 1074) den
+sub-units : (x y : Float) (s t : Bool) (a b : ℕ) → HasValue x s a (2 ^ lowest) → HasValue y t b (2 ^ lowest)
+    → x ⊖ y ≡ sum binary64 s (a * 2 ^ lowest) (not t) (b * 2 ^ lowest) den
 sub-units x y s t a b X Y =
-    sub-values x y s t a b (2 ^ 1074) (pow-pos 1074) X Y
-    ∙ sum-same binary64 s (not t) a b (2 ^ 1074) (a * 2 ^ 1074) (b * 2 ^ 1074) den (pow-pos 1074) (pow-pos (1074 + 1074)) (sym (wide a)) (sym (wide b))
+    sub-values x y s t a b (2 ^ lowest) (pow-pos lowest) X Y
+    ∙ sum-same binary64 s (not t) a b (2 ^ lowest) (a * 2 ^ lowest) (b * 2 ^ lowest) den (pow-pos lowest) (pow-pos (lowest + lowest)) (sym (wide a)) (sym (wide b))
 
 turned : (t : Bool) (b P N d : ℕ) → Apart (plus t b) (minus t b) P N d → Apart (plus (not t) b) (minus (not t) b) N P d
 turned true b P N d h = omega arith
@@ -114,8 +114,8 @@ turned false b P N d h = omega arith
 module _ (f g : Float) (P N d P' N' d' i : ℕ) (F : Around f P N d) (G : Around g P' N' d') where
   pub difference-around : Small (P + N') (N + P') (d + d') i → Around (f ⊖ g) (P + N') (N + P') (d + d' + 2 ^ i)
   difference-around w =
-      let a = F .units * 2 ^ 1074 in
-      let b = G .units * 2 ^ 1074 in
+      let a = F .units * 2 ^ lowest in
+      let b = G .units * 2 ^ lowest in
       once-around (f ⊖ g) (F .negative) (not (G .negative)) a b P N d N' P' d' i
       (subst (λ (r : Float). RoundedOnce r (F .negative) a (not (G .negative)) b den)
       (sym (sub-units f g (F .negative) (G .negative) (F .units) (G .units) (F .value) (G .value)))
@@ -123,24 +123,24 @@ module _ (f g : Float) (P N d P' N' d' i : ℕ) (F : Around f P N d) (G : Around
 
 -- ---- without a minus sign
 
-module _ (x y : Float) (a b : ℕ) (X : HasValue x false a (2 ^ 1074)) (Y : HasValue y false b (2 ^ 1074)) where
-  pub plus-round : x ⊕ y ≡ round binary64 false ((a + b) * 2 ^ 1074) den
+module _ (x y : Float) (a b : ℕ) (X : HasValue x false a (2 ^ lowest)) (Y : HasValue y false b (2 ^ lowest)) where
+  pub plus-round : x ⊕ y ≡ round binary64 false ((a + b) * 2 ^ lowest) den
   unfolding sum
   plus-round =
-      add-units x y false false a b (a * 2 ^ 1074) (b * 2 ^ 1074) X Y refl refl ∙ ap (λ (n : ℕ). round binary64 false n den) (sym (add-mul a b (2 ^ 1074)))
+      add-units x y false false a b (a * 2 ^ lowest) (b * 2 ^ lowest) X Y refl refl ∙ ap (λ (n : ℕ). round binary64 false n den) (sym (add-mul a b (2 ^ lowest)))
 
-  pub less-round : b ≤ a → x ⊖ y ≡ round binary64 false ((a - b) * 2 ^ 1074) den
+  pub less-round : b ≤ a → x ⊖ y ≡ round binary64 false ((a - b) * 2 ^ lowest) den
   less-round h = sub-units x y false false a b X Y ∙ go (eq-or-lt-of-le h)
     where
-      go : (b ≡ a) ⊎ (b < a) → sum binary64 false (a * 2 ^ 1074) true (b * 2 ^ 1074) den ≡ round binary64 false ((a - b) * 2 ^ 1074) den
+      go : (b ≡ a) ⊎ (b < a) → sum binary64 false (a * 2 ^ lowest) true (b * 2 ^ lowest) den ≡ round binary64 false ((a - b) * 2 ^ lowest) den
       go (inl e) =
-          sum-none binary64 (a * 2 ^ 1074) (b * 2 ^ 1074) den false true refl (ap (λ (n : ℕ). n * 2 ^ 1074) (sym e))
-          ∙ ap (λ (n : ℕ). round binary64 false n den) (sym (ap (λ (n : ℕ). n * 2 ^ 1074) (ap (λ (n : ℕ). a - n) e ∙ sub-self a) ∙ zero-mul (2 ^ 1074)))
+          sum-none binary64 (a * 2 ^ lowest) (b * 2 ^ lowest) den false true refl (ap (λ (n : ℕ). n * 2 ^ lowest) (sym e))
+          ∙ ap (λ (n : ℕ). round binary64 false n den) (sym (ap (λ (n : ℕ). n * 2 ^ lowest) (ap (λ (n : ℕ). a - n) e ∙ sub-self a) ∙ zero-mul (2 ^ lowest)))
       go (inr l) =
-          sum-more binary64 (a * 2 ^ 1074) (b * 2 ^ 1074) den false true refl (mul-lt-mul-of-pos-right l (pow-pos 1074))
-          ∙ ap (λ (n : ℕ). round binary64 false n den) (sym (sub-mul a b (2 ^ 1074)))
+          sum-more binary64 (a * 2 ^ lowest) (b * 2 ^ lowest) den false true refl (mul-lt-mul-of-pos-right l (pow-pos lowest))
+          ∙ ap (λ (n : ℕ). round binary64 false n den) (sym (sub-mul a b (2 ^ lowest)))
 
-pub times-round : (x y : Float) (s t : Bool) (a b : ℕ) → HasValue x s a (2 ^ 1074) → HasValue y t b (2 ^ 1074)
+pub times-round : (x y : Float) (s t : Bool) (a b : ℕ) → HasValue x s a (2 ^ lowest) → HasValue y t b (2 ^ lowest)
     → x ⊗ y ≡ round binary64 (unlike s t) (a * b) den
 times-round x y s t a b X Y =
-    product-round x y s t a b (2 ^ 1074) (pow-pos 1074) X Y ∙ ap (λ (c : ℕ). round binary64 (unlike s t) (a * b) c) (sym (pow-add 2 1074 1074))
+    product-round x y s t a b (2 ^ lowest) (pow-pos lowest) X Y ∙ ap (λ (c : ℕ). round binary64 (unlike s t) (a * b) c) (sym (pow-add 2 lowest lowest))

@@ -1,9 +1,9 @@
--- The margin is wider than all errors together. Everything is measured in 2 ^ t, of which the rounded sum s has 2 ^ 113 to 2 ^ 114: the rest `low` of the square
+-- The margin is wider than all errors together. Everything is measured in 2 ^ t, of which the rounded sum s has 2 ^ 113 to 2 ^ 114: the residual `low` of the square
 -- errs by 2 ^ 41 at most, the tail of the sum and the roundings after it by 2 ^ 12, and the margin u is 2 ^ 42 or more. So the exact sum lies between the two
 -- that are rounded last (`margin`).
 use mathlib.Core.Path.{_≡_, sym, ap, _∙_, subst}
 use mathlib.Core.Bool.{false}
-use Prim.Native.Nat.{ℕ, _+_, _*_, _^_, _≤_, _<_}
+use Prim.Native.Nat.{ℕ, _+_, _*_, _^_, _≤_, _<_, _-_}
 use native.Mathlib.Nat.{le-trans, le-of-eq, lt-of-le-of-lt, lt-of-lt-of-le, mul-assoc, le-of-mul-le-mul-right, lt-of-mul-lt-mul-right}
 use native.Mathlib.Omega.{arith}
 use lib.Dec.{T}
@@ -11,11 +11,12 @@ use lib.Pow.{pow-add, pow-pos, pow-mono}
 use lib.Ieee.{Float, binary64, round, le}
 use lib.Ieee.Exact.{HasValue}
 use Rattle.binary64.specs.Binary64.{_⊕_, _⊖_, _⊗_}
-use Rattle.fused_integer.proofs.Laws.Once.{den}
-use Rattle.fused_lanes.proofs.Laws.Rounded.{Rounded, stays-under, rounded}
+use Rattle.binary64.specs.Nearest.{den}
+use Rattle.fused_lanes.proofs.Laws.Rounded.{Rounded, stays-under, rounded, placeTop}
 use Rattle.fused_lanes.proofs.Laws.Around.{Around, of-value, around-same, sum-around, difference-around, times-round}
 use Rattle.fused_lanes.proofs.Laws.Square.{room}
 use Rattle.fused_lanes.proofs.Laws.Between.{LastSum, last-sum, between}
+use Rattle.binary64.specs.Format.{lowest}
 
 -- ---- numbers
 
@@ -28,7 +29,7 @@ pub record Sizes (x q z s k j y : ℕ) : Type 0 where
   pub below : q + z ≤ s + 2 ^ 60 * y
   pub large : 2 ^ 66 * y ≤ q + z
   pub square : k ≤ 2 ^ 63 * y
-  pub rest : j ≤ 2 ^ 41 * y
+  pub residual : j ≤ 2 ^ 41 * y
 
 -- u: the margin
 pub record Margin (u y : ℕ) : Type 0 where
@@ -39,17 +40,17 @@ abbrev error : ℕ → ℕ
 error y = 2 ^ 41 * y + 2 ^ 11 * y
 
 module _ (x q z s k j y : ℕ) (n : Sizes x q z s k j y) where
-  rest-upper : (w : ℕ) → w ≡ 2 ^ 54 * (2 ^ 10 * y) → x + (q + z) + (j + 2 ^ 7 * y) < q + s + w
-  rest-upper w e = omega arith
+  residual-upper : (w : ℕ) → w ≡ 2 ^ 54 * (2 ^ 10 * y) → x + (q + z) + (j + 2 ^ 7 * y) < q + s + w
+  residual-upper w e = omega arith
 
-  rest-lower : (w : ℕ) → w ≡ 2 ^ 54 * (2 ^ 10 * y) → q + s + (j + 2 ^ 7 * y) < x + (q + z) + w
-  rest-lower w e = omega arith
+  residual-lower : (w : ℕ) → w ≡ 2 ^ 54 * (2 ^ 10 * y) → q + s + (j + 2 ^ 7 * y) < x + (q + z) + w
+  residual-lower w e = omega arith
 
-  rest-same : x + (q + z) + s ≡ x + z + (q + s)
-  rest-same = omega arith
+  residual-same : x + (q + z) + s ≡ x + z + (q + s)
+  residual-same = omega arith
 
-  rest-error : (e : ℕ) → e ≡ 2 ^ 10 * y → j + 2 ^ 7 * y + e ≤ error y
-  rest-error e h = omega arith
+  residual-error : (e : ℕ) → e ≡ 2 ^ 10 * y → j + 2 ^ 7 * y + e ≤ error y
+  residual-error e h = omega arith
 
 -- the same in units b of 2 ^ 46 * y, with the margin u, the error e before the last differences and theirs, f
 record Coarse (x q z s k u e f b : ℕ) : Type 0 where
@@ -140,18 +141,18 @@ second-over w s x z u f y m some h g = omega arith
 -- ---- floats
 
 -- s is S of the smallest values, c is 2 ^ -70
-module _ (low tail s c : Float) (X J Q Z S t : ℕ) (lo : 1074 ≤ t) (hi : t ≤ 2900) (held : HasValue s false S (2 ^ 1074)) (unit : HasValue c false (2 ^ 1004) (2 ^ 1074))
-    (n : Sizes X (Q * 2 ^ 1074) (Z * 2 ^ 1074) (S * 2 ^ 1074) (2 ^ 22 * J) J (2 ^ t)) (most : Q * 2 ^ 1074 + Z * 2 ^ 1074 < 2 ^ (54 + (60 + t)))
-    (least : 2 ^ (53 + (60 + t)) ≤ Q * 2 ^ 1074 + Z * 2 ^ 1074) (A : Around low X (Q * 2 ^ 1074) J)
-    (B : Around tail (Q * 2 ^ 1074 + Z * 2 ^ 1074) (S * 2 ^ 1074) (2 ^ 7 * 2 ^ t)) where
+module _ (low tail s c : Float) (X J Q Z S t : ℕ) (lo : lowest ≤ t) (hi : t ≤ (placeTop - 100)) (held : HasValue s false S (2 ^ lowest)) (unit : HasValue c false (2 ^ (lowest - 70)) (2 ^ lowest))
+    (n : Sizes X (Q * 2 ^ lowest) (Z * 2 ^ lowest) (S * 2 ^ lowest) (2 ^ 22 * J) J (2 ^ t)) (most : Q * 2 ^ lowest + Z * 2 ^ lowest < 2 ^ (54 + (60 + t)))
+    (least : 2 ^ (53 + (60 + t)) ≤ Q * 2 ^ lowest + Z * 2 ^ lowest) (A : Around low X (Q * 2 ^ lowest) J)
+    (B : Around tail (Q * 2 ^ lowest + Z * 2 ^ lowest) (S * 2 ^ lowest) (2 ^ 7 * 2 ^ t)) where
   abbrev q : ℕ
-  q = Q * 2 ^ 1074
+  q = Q * 2 ^ lowest
 
   abbrev z : ℕ
-  z = Z * 2 ^ 1074
+  z = Z * 2 ^ lowest
 
   abbrev σ : ℕ
-  σ = S * 2 ^ 1074
+  σ = S * 2 ^ lowest
 
   abbrev k : ℕ
   k = 2 ^ 22 * J
@@ -159,32 +160,32 @@ module _ (low tail s c : Float) (X J Q Z S t : ℕ) (lo : 1074 ≤ t) (hi : t �
   abbrev y : ℕ
   y = 2 ^ t
 
-  in-range : (i : ℕ) → i ≤ 100 → (1074 ≤ i + t) × (i + t ≤ 3000)
+  in-range : (i : ℕ) → i ≤ 100 → (lowest ≤ i + t) × (i + t ≤ placeTop)
   in-range i h = go i t h lo hi
     where
-      go : (i t : ℕ) → i ≤ 100 → 1074 ≤ t → t ≤ 2900 → (1074 ≤ i + t) × (i + t ≤ 3000)
+      go : (i t : ℕ) → i ≤ 100 → lowest ≤ t → t ≤ (placeTop - 100) → (lowest ≤ i + t) × (i + t ≤ placeTop)
       go i t a b c = omega arith
 
-  -- the rest of the square and of the sum
+  -- the residual of the square and of the sum
   both : Around (low ⊕ tail) (X + z) σ (error y)
   both =
-      around-same (low ⊕ tail) (X + (q + z)) (q + σ) (J + 2 ^ 7 * y + 2 ^ (10 + t)) (X + z) σ (error y) (rest-same X q z σ k J y n)
-      (rest-error X q z σ k J y n (2 ^ (10 + t)) (pow-add 2 10 t))
+      around-same (low ⊕ tail) (X + (q + z)) (q + σ) (J + 2 ^ 7 * y + 2 ^ (10 + t)) (X + z) σ (error y) (residual-same X q z σ k J y n)
+      (residual-error X q z σ k J y n (2 ^ (10 + t)) (pow-add 2 10 t))
       (sum-around low tail X q J (q + z) σ (2 ^ 7 * y) (10 + t) A B
       (record {
         low = in-range 10 (lib.Dec.lit≤ tt) .0;
         high = in-range 10 (lib.Dec.lit≤ tt) .1;
-        upper = rest-upper X q z σ k J y n (2 ^ (54 + (10 + t))) (room 10 t);
-        lower = rest-lower X q z σ k J y n (2 ^ (54 + (10 + t))) (room 10 t);
+        upper = residual-upper X q z σ k J y n (2 ^ (54 + (10 + t))) (room 10 t);
+        lower = residual-lower X q z σ k J y n (2 ^ (54 + (10 + t))) (room 10 t);
       }))
 
   -- ---- the margin
 
   abbrev w : ℕ
-  w = S * 2 ^ 1004
+  w = S * 2 ^ (lowest - 70)
 
   scaled : w * 2 ^ 70 ≡ σ
-  scaled = mul-assoc S (2 ^ 1004) (2 ^ 70)
+  scaled = mul-assoc S (2 ^ (lowest - 70)) (2 ^ 70)
 
   -- 2 ^ (114 + t)
   abbrev g : ℕ
@@ -223,17 +224,17 @@ module _ (low tail s c : Float) (X J Q Z S t : ℕ) (lo : 1074 ≤ t) (hi : t �
       same t = omega arith
 
   u : Rounded (s ⊗ c) false w t
-  u = subst (λ (x : Float). Rounded x false w t) (sym (times-round s c false false S (2 ^ 1004) held unit))
+  u = subst (λ (x : Float). Rounded x false w t) (sym (times-round s c false false S (2 ^ (lowest - 70)) held unit))
       (rounded w t lo (high t hi) (lt-of-lt-of-le w-under (pow-mono (more t))) false)
     where
-      high : (t : ℕ) → t ≤ 2900 → t ≤ 3000
+      high : (t : ℕ) → t ≤ (placeTop - 100) → t ≤ placeTop
       high t h = omega arith
 
       more : (t : ℕ) → 45 + t ≤ 54 + t
       more t = omega arith
 
   abbrev υ : ℕ
-  υ = u .units * 2 ^ 1074
+  υ = u .units * 2 ^ lowest
 
   m : Margin υ y
   m =
@@ -286,7 +287,7 @@ module _ (low tail s c : Float) (X J Q Z S t : ℕ) (lo : 1074 ≤ t) (hi : t �
       }))
       (s-some X q z σ k υ (error y) f b C) (high-plus X q z σ k υ (error y) f b C)
 
-  pub margin : T (le (s ⊕ (low ⊕ tail ⊕ s ⊗ c)) (s ⊕ (low ⊕ tail ⊖ s ⊗ c))) → s ⊕ (low ⊕ tail ⊕ s ⊗ c) ≡ round binary64 false (X + Z * 2 ^ 1074) den
+  pub margin : T (le (s ⊕ (low ⊕ tail ⊕ s ⊗ c)) (s ⊕ (low ⊕ tail ⊖ s ⊗ c))) → s ⊕ (low ⊕ tail ⊕ s ⊗ c) ≡ round binary64 false (X + Z * 2 ^ lowest) den
   margin h =
       more .is
       ∙ between (less .size) (X + z) (more .size) (61 + t) (in-range 61 (lib.Dec.lit≤ tt) .0) (in-range 61 (lib.Dec.lit≤ tt) .1)

@@ -1,5 +1,5 @@
 -- What the square's rounding left off. a is m * 2 ^ p of the smallest values, h the same with the last 27 digits of m cut off. In units of 2 ^ (2 * p) the
--- square of h has 52 digits, (a − h) * (a + h) is below 2 ^ 81, and so is all that is rounded on the way to a * a − q (`Rest`), but for q itself.
+-- square of h has 52 digits, (a − h) * (a + h) is below 2 ^ 81, and so is all that is rounded on the way to a * a − q (`Residual`), but for q itself.
 use mathlib.Core.Path.{_≡_, refl, sym, ap, _∙_, subst}
 use mathlib.Core.Bool.{false}
 use Prim.Native.Nat.{ℕ, _+_, _-_, _*_, _/_, _%_, _^_, _≤_, _<_}
@@ -9,9 +9,10 @@ use lib.Pow.{pow-add, pow-pos, split}
 use lib.Ieee.{Float, binary64, round}
 use lib.Ieee.Exact.{HasValue}
 use Rattle.binary64.specs.Binary64.{_⊕_, _⊖_, _⊗_}
-use Rattle.fused_integer.proofs.Laws.Once.{den}
-use Rattle.fused_lanes.proofs.Laws.Rounded.{Rounded, rounded, exact}
+use Rattle.binary64.specs.Nearest.{den}
+use Rattle.fused_lanes.proofs.Laws.Rounded.{Rounded, rounded, exact, placeTop}
 use Rattle.fused_lanes.proofs.Laws.Around.{Apart, Around, of-value, around-same, difference-around, plus-round, less-round, times-round}
+use Rattle.binary64.specs.Format.{lowest, trailing}
 
 -- ---- numbers
 
@@ -22,8 +23,8 @@ product-lt x y a b h k = lt-of-le-of-lt (mul-le-mul-right y (le-of-lt h)) (mul-l
     some x a h = omega arith
 
 -- the last 27 digits, and the others
-abbrev rest : ℕ → ℕ
-rest m = m % 2 ^ 27
+abbrev residual : ℕ → ℕ
+residual m = m % 2 ^ 27
 
 abbrev lead : ℕ → ℕ
 lead m = m / 2 ^ 27 * 2 ^ 27
@@ -43,8 +44,8 @@ pub record Parts (m : ℕ) : Type 0 where
   pub high : m * m < 2 ^ 106
   pub cut : lead m * lead m < 2 ^ 106
   pub digits : m / 2 ^ 27 * (m / 2 ^ 27) < 2 ^ 53
-  pub sum : m * m ≡ lead m * lead m + rest m * (m + lead m)
-  pub small : rest m * (m + lead m) < 2 ^ 81
+  pub sum : m * m ≡ lead m * lead m + residual m * (m + lead m)
+  pub small : residual m * (m + lead m) < 2 ^ 81
 
 parts : (m : ℕ) → 2 ^ 52 ≤ m → m < 2 ^ 53 → Parts m
 parts m lo hi =
@@ -53,8 +54,8 @@ parts m lo hi =
       high = product-lt m m (2 ^ 53) (2 ^ 53) hi hi;
       cut = product-lt (lead m) (lead m) (2 ^ 53) (2 ^ 53) (lead-lt m hi) (lead-lt m hi);
       digits = lt-of-lt-of-le (product-lt (m / 2 ^ 27) (m / 2 ^ 27) (2 ^ 26) (2 ^ 26) (few m hi) (few m hi)) (lib.Dec.lit≤ tt);
-      sum = subst (λ (x : ℕ). x * x ≡ lead m * lead m + rest m * (x + lead m)) (split m 27) (squares (lead m) (rest m));
-      small = product-lt (rest m) (m + lead m) (2 ^ 27) (2 ^ 54) (mod-lt m (pow-pos 27)) (twice m hi);
+      sum = subst (λ (x : ℕ). x * x ≡ lead m * lead m + residual m * (x + lead m)) (split m 27) (squares (lead m) (residual m));
+      small = product-lt (residual m) (m + lead m) (2 ^ 27) (2 ^ 54) (mod-lt m (pow-pos 27)) (twice m hi);
     }
   where
     lead-lt : (m : ℕ) → m < 2 ^ 53 → m / 2 ^ 27 * 2 ^ 27 < 2 ^ 53
@@ -67,20 +68,20 @@ parts m lo hi =
 pub room : (k n : ℕ) → 2 ^ (54 + (k + n)) ≡ 2 ^ 54 * (2 ^ k * 2 ^ n)
 room k n = pow-add 2 54 (k + n) ∙ ap (λ (x : ℕ). 2 ^ 54 * x) (pow-add 2 k n)
 
--- ---- the rest of the square
+-- ---- the residual of the square
 
 -- q is Q of the smallest values
-pub record Rest (a h : Float) (X Y : ℕ) : Type 0 where
+pub record Residual (a h : Float) (X Y : ℕ) : Type 0 where
   pub Q : ℕ
-  pub value : HasValue (a ⊗ a) false Q (2 ^ 1074)
-  pub upper : Q * 2 ^ 1074 ≤ X + 2 ^ 52 * Y
-  pub lower : X ≤ Q * 2 ^ 1074 + 2 ^ 52 * Y
-  pub low : Around ((a ⊖ h) ⊗ (a ⊕ h) ⊖ (a ⊗ a ⊖ h ⊗ h)) X (Q * 2 ^ 1074) (2 ^ 30 * Y)
+  pub value : HasValue (a ⊗ a) false Q (2 ^ lowest)
+  pub upper : Q * 2 ^ lowest ≤ X + 2 ^ 52 * Y
+  pub lower : X ≤ Q * 2 ^ lowest + 2 ^ 52 * Y
+  pub low : Around ((a ⊖ h) ⊗ (a ⊕ h) ⊖ (a ⊗ a ⊖ h ⊗ h)) X (Q * 2 ^ lowest) (2 ^ 30 * Y)
 
-module _ (a h : Float) (m p : ℕ) (first : 2 ^ 52 ≤ m) (top : m < 2 ^ 53) (lo : 822 ≤ p) (hi : p ≤ 1222) (A : HasValue a false (m * 2 ^ p) (2 ^ 1074))
-    (H : HasValue h false (m / 2 ^ 27 * 2 ^ 27 * 2 ^ p) (2 ^ 1074)) where
+module _ (a h : Float) (m p : ℕ) (first : 2 ^ 52 ≤ m) (top : m < 2 ^ 53) (lo : (lowest - 200 - trailing) ≤ p) (hi : p ≤ (lowest + 200 - trailing)) (A : HasValue a false (m * 2 ^ p) (2 ^ lowest))
+    (H : HasValue h false (m / 2 ^ 27 * 2 ^ 27 * 2 ^ p) (2 ^ lowest)) where
   abbrev l : ℕ
-  l = 2 ^ 1074
+  l = 2 ^ lowest
 
   abbrev u : ℕ
   u = 2 ^ p
@@ -104,22 +105,22 @@ module _ (a h : Float) (m p : ℕ) (first : 2 ^ 52 ≤ m) (top : m < 2 ^ 53) (lo
   in-units : (x y : ℕ) → x * 2 ^ p * (y * 2 ^ p) ≡ x * y * 2 ^ (p + p)
   in-units x y = regroup x y (2 ^ p) (2 ^ p) ∙ ap (λ (z : ℕ). x * y * z) (sym (pow-add 2 p p))
 
-  in-range : (k : ℕ) → k ≤ 100 → (1074 ≤ k + (p + p)) × (k + (p + p) ≤ 3000)
+  in-range : (k : ℕ) → k ≤ 100 → (lowest ≤ k + (p + p)) × (k + (p + p) ≤ placeTop)
   in-range k h = go k p h lo hi
     where
-      go : (k p : ℕ) → k ≤ 100 → 822 ≤ p → p ≤ 1222 → (1074 ≤ k + (p + p)) × (k + (p + p) ≤ 3000)
+      go : (k p : ℕ) → k ≤ 100 → (lowest - 200 - trailing) ≤ p → p ≤ (lowest + 200 - trailing) → (lowest ≤ k + (p + p)) × (k + (p + p) ≤ placeTop)
       go k p a b c = omega arith
 
-  place-range : (1074 ≤ p + 1074) × (p + 1074 ≤ 3000)
+  place-range : (lowest ≤ p + lowest) × (p + lowest ≤ placeTop)
   place-range = go p hi
     where
-      go : (p : ℕ) → p ≤ 1222 → (1074 ≤ p + 1074) × (p + 1074 ≤ 3000)
+      go : (p : ℕ) → p ≤ (lowest + 200 - trailing) → (lowest ≤ p + lowest) × (p + lowest ≤ placeTop)
       go p h = omega arith
 
   -- 54 digits at a's last place
-  at-place : (x : ℕ) → x < 2 ^ 54 → x * 2 ^ p * 2 ^ 1074 < 2 ^ (54 + (p + 1074))
+  at-place : (x : ℕ) → x < 2 ^ 54 → x * 2 ^ p * 2 ^ lowest < 2 ^ (54 + (p + lowest))
   at-place x h =
-      lt-of-lt-of-le (mul-lt-mul-of-pos-right (mul-lt-mul-of-pos-right h (pow-pos p)) (pow-pos 1074)) (le-of-eq (mul-assoc (2 ^ 54) u l ∙ sym (room p 1074)))
+      lt-of-lt-of-le (mul-lt-mul-of-pos-right (mul-lt-mul-of-pos-right h (pow-pos p)) (pow-pos lowest)) (le-of-eq (mul-assoc (2 ^ 54) u l ∙ sym (room p lowest)))
 
   -- and of a square
   at-square : (x : ℕ) → x < 2 ^ 106 * 2 ^ (p + p) → x < 2 ^ (54 + (52 + (p + p)))
@@ -128,9 +129,9 @@ module _ (a h : Float) (m p : ℕ) (first : 2 ^ 52 ≤ m) (top : m < 2 ^ 53) (lo
   -- a − h
   difference : HasValue (a ⊖ h) false (r * u) l
   difference = subst (λ (x : Float). HasValue x false (r * u) l) (sym (less-round a h (m * u) (k * u) A H (under (k * u) (r * u) (m * u) whole)))
-      (exact (round binary64 false ((m * u - k * u) * l) den) false ((m * u - k * u) * l) (p + 1074) r p
-      (rounded ((m * u - k * u) * l) (p + 1074) (place-range .0) (place-range .1)
-      (subst (λ (x : ℕ). x * l < 2 ^ (54 + (p + 1074))) (sym is) (at-place r (lt-of-lt-of-le (mod-lt m (pow-pos 27)) (lib.Dec.lit≤ tt)))) false)
+      (exact (round binary64 false ((m * u - k * u) * l) den) false ((m * u - k * u) * l) (p + lowest) r p
+      (rounded ((m * u - k * u) * l) (p + lowest) (place-range .0) (place-range .1)
+      (subst (λ (x : ℕ). x * l < 2 ^ (54 + (p + lowest))) (sym is) (at-place r (lt-of-lt-of-le (mod-lt m (pow-pos 27)) (lib.Dec.lit≤ tt)))) false)
       (lt-of-lt-of-le (mod-lt m (pow-pos 27)) (lib.Dec.lit≤ tt)) (ap (λ (x : ℕ). x * l) is))
     where
       whole : k * u + r * u ≡ m * u
@@ -146,10 +147,10 @@ module _ (a h : Float) (m p : ℕ) (first : 2 ^ 52 ≤ m) (top : m < 2 ^ 53) (lo
       is = less (k * u) (r * u) (m * u) whole
 
   -- a + h
-  total : Rounded (a ⊕ h) false ((m * u + k * u) * l) (p + 1074)
-  total = subst (λ (x : Float). Rounded x false ((m * u + k * u) * l) (p + 1074)) (sym (plus-round a h (m * u) (k * u) A H))
-      (rounded ((m * u + k * u) * l) (p + 1074) (place-range .0) (place-range .1)
-      (subst (λ (x : ℕ). x * l < 2 ^ (54 + (p + 1074))) (add-mul m k u) (at-place (m + k) (twice m top))) false)
+  total : Rounded (a ⊕ h) false ((m * u + k * u) * l) (p + lowest)
+  total = subst (λ (x : Float). Rounded x false ((m * u + k * u) * l) (p + lowest)) (sym (plus-round a h (m * u) (k * u) A H))
+      (rounded ((m * u + k * u) * l) (p + lowest) (place-range .0) (place-range .1)
+      (subst (λ (x : ℕ). x * l < 2 ^ (54 + (p + lowest))) (add-mul m k u) (at-place (m + k) (twice m top))) false)
 
   abbrev E : ℕ
   E = total .units
@@ -157,11 +158,11 @@ module _ (a h : Float) (m p : ℕ) (first : 2 ^ 52 ≤ m) (top : m < 2 ^ 53) (lo
   total-upper : E ≤ m * u + k * u + u
   total-upper =
       le-of-mul-le-mul-right
-      (le-trans (total .upper) (le-of-eq (ap (λ (x : ℕ). (m * u + k * u) * l + x) (pow-add 2 p 1074) ∙ sym (add-mul (m * u + k * u) u l)))) (pow-pos 1074)
+      (le-trans (total .upper) (le-of-eq (ap (λ (x : ℕ). (m * u + k * u) * l + x) (pow-add 2 p lowest) ∙ sym (add-mul (m * u + k * u) u l)))) (pow-pos lowest)
 
   total-lower : m * u + k * u ≤ E + u
   total-lower =
-      le-of-mul-le-mul-right (le-trans (total .lower) (le-of-eq (ap (λ (x : ℕ). E * l + x) (pow-add 2 p 1074) ∙ sym (add-mul E u l)))) (pow-pos 1074)
+      le-of-mul-le-mul-right (le-trans (total .lower) (le-of-eq (ap (λ (x : ℕ). E * l + x) (pow-add 2 p lowest) ∙ sym (add-mul E u l)))) (pow-pos lowest)
 
   -- (a − h) * (a + h)
   W : ℕ
@@ -243,9 +244,9 @@ module _ (a h : Float) (m p : ℕ) (first : 2 ^ 52 ≤ m) (top : m < 2 ^ 53) (lo
       c = m / 2 ^ 27
 
       j : ℕ
-      j = 54 + (p + p) - 1074
+      j = 54 + (p + p) - lowest
 
-      back : (p : ℕ) → 822 ≤ p → 54 + (p + p) ≡ 54 + (p + p) - 1074 + 1074
+      back : (p : ℕ) → (lowest - 200 - trailing) ≤ p → 54 + (p + p) ≡ 54 + (p + p) - lowest + lowest
       back p h = omega arith
 
       is : S ≡ c * c * 2 ^ j * l
@@ -253,7 +254,7 @@ module _ (a h : Float) (m p : ℕ) (first : 2 ^ 52 ≤ m) (top : m < 2 ^ 53) (lo
           in-units k k
           ∙ ap (λ (x : ℕ). x * Y) (regroup c c (2 ^ 27) (2 ^ 27))
           ∙ mul-assoc (c * c) (2 ^ 54) Y
-          ∙ ap (λ (x : ℕ). c * c * x) (sym (pow-add 2 54 (p + p)) ∙ ap (λ (x : ℕ). 2 ^ x) (back p lo) ∙ pow-add 2 j 1074)
+          ∙ ap (λ (x : ℕ). c * c * x) (sym (pow-add 2 54 (p + p)) ∙ ap (λ (x : ℕ). 2 ^ x) (back p lo) ∙ pow-add 2 j lowest)
           ∙ sym (mul-assoc (c * c) (2 ^ j) l)
 
   square : Rounded (a ⊗ a) false X (52 + n)
@@ -310,5 +311,5 @@ module _ (a h : Float) (m p : ℕ) (first : 2 ^ 52 ≤ m) (top : m < 2 ^ 53) (lo
       lower : (q s x y e t : ℕ) → q ≤ x + 2 ^ 52 * y → 0 < y → e ≡ 2 ^ 28 * y → t ≡ 2 ^ 54 * (2 ^ 1 * y) → s + (q + 0) + (2 ^ 29 * y + (0 + 0 + e)) < x + (0 + s) + t
       lower q s x y e t a b c d = omega arith
 
-  pub square-rest : Rest a h (m * 2 ^ p * (m * 2 ^ p)) (2 ^ (p + p))
-  square-rest = record { Q = Q; value = square .value; upper = square-upper; lower = square-lower; low = low-part }
+  pub square-residual : Residual a h (m * 2 ^ p * (m * 2 ^ p)) (2 ^ (p + p))
+  square-residual = record { Q = Q; value = square .value; upper = square-upper; lower = square-lower; low = low-part }

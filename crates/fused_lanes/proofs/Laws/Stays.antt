@@ -4,7 +4,7 @@ use mathlib.Core.Path.{_≡_, refl, sym, ap, _∙_}
 use mathlib.Core.Bool.{Bool, true, false, cond, _&&_, true≢false}
 use lib.Ieee.{Float, nan, inf, fin, isNan, le, lt, eq, ofBits}
 use Rattle.binary64.specs.Binary64.{_⊕_, _⊖_, _⊗_, bits, plusZero}
-use Rattle.fused_lanes.specs.Lanes.{within, twoToMinus400, twoToMinus200, twoToMinus70, twoTo200, twoTo400, pattern, settled, squareAdd}
+use Rattle.fused_lanes.specs.Lanes.{within, twoToMinus400, twoToMinus200, twoToMinus70, twoTo200, twoTo400, magnitudeOrZero, settled, squareAdd}
 
 unsettled : (s v r : Float) → settled false s v r ≡ r
 unfolding settled
@@ -19,9 +19,9 @@ unfolding le lt eq ofBits
 out-of-range true s v q = unsettled s v nan
 out-of-range false s v q = unsettled s v nan
 
-pub nan-stays : (x : Float) → squareAdd x nan ≡ nan
+nan-stays : (x : Float) → squareAdd x nan ≡ nan
 unfolding squareAdd
-nan-stays x = let a = bits (pattern x) in out-of-range (within twoToMinus200 a twoTo200) _ _ (a ⊗ a)
+nan-stays x = let a = bits (magnitudeOrZero x) in out-of-range (within twoToMinus200 a twoTo200) _ _ (a ⊗ a)
 
 pub of-number : (x z : Float) → isNan (squareAdd x z) ≡ false → isNan z ≡ false
 unfolding isNan

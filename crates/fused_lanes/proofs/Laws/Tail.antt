@@ -9,17 +9,18 @@ use lib.Pow.{pow-add, pow-pos}
 use lib.Ieee.{Float, binary64, round}
 use lib.Ieee.Exact.{HasValue}
 use Rattle.binary64.specs.Binary64.{_⊖_}
-use Rattle.fused_integer.proofs.Laws.Once.{den}
-use Rattle.fused_integer.proofs.Laws.Jam.{sub-mul}
-use Rattle.fused_lanes.proofs.Laws.Rounded.{Rounded, stays-under, rounded, exact}
+use Rattle.binary64.specs.Nearest.{den}
+use Rattle.binary64.proofs.Values.{sub-mul}
+use Rattle.fused_lanes.proofs.Laws.Rounded.{Rounded, stays-under, rounded, exact, placeTop}
 use Rattle.fused_lanes.proofs.Laws.Around.{Around, of-value, around-same, difference-around, less-round}
 use Rattle.fused_lanes.proofs.Laws.Square.{room}
+use Rattle.binary64.specs.Format.{lowest}
 
-module _ (s big small : Float) (b j C t : ℕ) (first : 2 ^ 52 ≤ b) (top : b < 2 ^ 53) (lo : 1074 ≤ t) (hi : t ≤ 2900) (B : HasValue big false (b * 2 ^ j) (2 ^ 1074))
-    (c : HasValue small false C (2 ^ 1074)) (le : C ≤ b * 2 ^ j) (R : Rounded s false ((b * 2 ^ j + C) * 2 ^ 1074) (60 + t))
-    (bound : (b * 2 ^ j + C) * 2 ^ 1074 < 2 ^ (54 + (60 + t))) where
+module _ (s big small : Float) (b j C t : ℕ) (first : 2 ^ 52 ≤ b) (top : b < 2 ^ 53) (lo : lowest ≤ t) (hi : t ≤ (placeTop - 100)) (B : HasValue big false (b * 2 ^ j) (2 ^ lowest))
+    (c : HasValue small false C (2 ^ lowest)) (le : C ≤ b * 2 ^ j) (R : Rounded s false ((b * 2 ^ j + C) * 2 ^ lowest) (60 + t))
+    (bound : (b * 2 ^ j + C) * 2 ^ lowest < 2 ^ (54 + (60 + t))) where
   abbrev l : ℕ
-  l = 2 ^ 1074
+  l = 2 ^ lowest
 
   abbrev S : ℕ
   S = R .units
@@ -63,10 +64,10 @@ module _ (s big small : Float) (b j C t : ℕ) (first : 2 ^ 52 ≤ b) (top : b <
       (exact (round binary64 false ((S - b * 2 ^ j) * l) den) false ((S - b * 2 ^ j) * l) (61 + t) (q - b) j
       (rounded ((S - b * 2 ^ j) * l) (61 + t) (low t lo) (high t hi) small-enough false) few (ap (λ (x : ℕ). x * l) is)))
     where
-      low : (t : ℕ) → 1074 ≤ t → 1074 ≤ 61 + t
+      low : (t : ℕ) → lowest ≤ t → lowest ≤ 61 + t
       low t h = omega arith
 
-      high : (t : ℕ) → t ≤ 2900 → 61 + t ≤ 3000
+      high : (t : ℕ) → t ≤ (placeTop - 100) → 61 + t ≤ placeTop
       high t h = omega arith
 
       part : (x y : ℕ) → x - y ≤ x
@@ -87,7 +88,7 @@ module _ (s big small : Float) (b j C t : ℕ) (first : 2 ^ 52 ≤ b) (top : b <
       whole : (x y : ℕ) → y ≤ x → x - y + y ≡ x
       whole x y h = omega arith
 
-  pub tail : Around (small ⊖ (s ⊖ big)) ((b * 2 ^ j + C) * 2 ^ 1074) (R .units * 2 ^ 1074) (2 ^ 7 * 2 ^ t)
+  pub tail : Around (small ⊖ (s ⊖ big)) ((b * 2 ^ j + C) * 2 ^ lowest) (R .units * 2 ^ lowest) (2 ^ 7 * 2 ^ t)
   tail =
       let d = (S - b * 2 ^ j) * l in
       let v = (b * 2 ^ j + C) * l in
@@ -101,10 +102,10 @@ module _ (s big small : Float) (b j C t : ℕ) (first : 2 ^ 52 ≤ b) (top : b <
         lower = lower (C * l) (b * 2 ^ j * l) v d (S * l) (2 ^ (60 + t)) (2 ^ t) (2 ^ (54 + (7 + t))) (add-mul (b * 2 ^ j) C l) back (R .upper) (pow-add 2 60 t) (room 7 t) (pow-pos t);
       }))
     where
-      low : (t : ℕ) → 1074 ≤ t → 1074 ≤ 7 + t
+      low : (t : ℕ) → lowest ≤ t → lowest ≤ 7 + t
       low t h = omega arith
 
-      high : (t : ℕ) → t ≤ 2900 → 7 + t ≤ 3000
+      high : (t : ℕ) → t ≤ (placeTop - 100) → 7 + t ≤ placeTop
       high t h = omega arith
 
       error : (x y : ℕ) → x ≡ y → 0 + 0 + x ≤ y

@@ -15,20 +15,21 @@ held-z : (c : tie.Start) → T (fits binary64 (c .args .z))
 held-z c = subst T (sym (c .good .1 .0 .1)) tt
 
 float-from-bits-a : tie.Need-float-from-bits-a
-float-from-bits-a c = no-nan (c .pattern .result) (c .pattern .ensures .1)
+float-from-bits-a c = no-nan (c .magnitude-or-zero .result) (c .magnitude-or-zero .ensures .1)
 
 leading-requires : tie.Need-leading-requires
-leading-requires c κs = c .pattern .ensures .1
+leading-requires c κs = c .magnitude-or-zero .ensures .1
 
-lane : (c : tie.After-settled) → let s = c .before .before .before .before .before .before .before in c .settled .result ≡ Spec.squareAdd (s .args .x) (s .args .z)
+lane : (c : tie.After-settled) → let c4 = c .before .before .before .before in let s = c4 .before .before .before in c .settled .result ≡ Spec.squareAdd (s .args .x) (s .args .z)
 unfolding Spec.squareAdd
 lane c =
     let c6 = c .before in let c5 = c6 .before in let c4 = c5 .before in let c3 = c4 .before in let c2 = c3 .before in let c1 = c2 .before in
-    rw (c .settled .ensures, c6 .select .ensures, c5 .not-a-number .ensures, c4 .sum-rest .ensures, c3 .square-rest .ensures, c2 .leading .ensures, c1 .pattern .ensures .0)
+    rw (c .settled .ensures, c6 .select .ensures, c5 .not-a-number .ensures, c4 .sum-residual .ensures, c3 .square-residual .ensures, c2 .leading .ensures, c1 .magnitude-or-zero .ensures .0)
 
 returns : tie.Need-returns
 returns c =
-    let s = c .before .before .before .before .before .before .before in
+    let c4 = c .before .before .before .before in
+    let s = c4 .before .before .before in
     let e = lane c in
     (e, λ n. e ∙ lane-fma (s .args .x) (s .args .z) (held-x s) (held-z s) (sym (ap isNan e) ∙ n))
 

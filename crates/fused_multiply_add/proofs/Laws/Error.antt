@@ -3,55 +3,24 @@
 use mathlib.Core.Path.{_≡_, refl, sym, ap, _∙_, subst}
 use mathlib.Core.Bool.{Bool, true, false, cond}
 use Prim.Native.Nat.{ℕ, zero, suc, _+_, _-_, _*_, _/_, _^_, _≤_, _<_}
-use native.Mathlib.Nat.{le-trans, le-of-eq, lt-of-le-of-lt, mul-comm, mul-assoc, mul-left-comm, mul-right-comm, add-mul, zero-mul, mul-pos, le-of-mul-le-mul-right, eq-of-mul-eq-mul-right}
+use native.Mathlib.Nat.{le-trans, le-of-eq, lt-of-le-of-lt, mul-comm, mul-assoc, add-mul, zero-mul, mul-pos}
 use native.Mathlib.Omega.{arith}
 use lib.Dec.{T}
 use lib.Pow.{pow-add, pow-pos}
-use lib.Ieee.{Float, nan, inf, fin, binary64, prec, low, up, down, size, unlike, round, add, mul}
-use lib.Ieee.Fits.{down-pos}
+use lib.Ieee.{Float, nan, inf, fin, binary64, prec, low, size, unlike, round, add, mul}
 use lib.Ieee.Exact.{HasValue}
 use lib.Ieee.Order.{drop}
-use lib.Ieee.Scale.{round-same, grid, finite}
-use Rattle.binary64.proofs.Nearest.{Near, grid-near, round-value, round-finite}
+use lib.Ieee.Scale.{grid, finite}
+use Rattle.binary64.specs.Nearest.{Near, RoundedOnce}
+use Rattle.binary64.proofs.Nearest.{grid-near, near-cancel, round-value, round-finite}
 use Rattle.binary64.proofs.Size.{exponent-lt}
 use Rattle.fused_multiply_add.specs.Residual.{added, taken}
-use Rattle.fused_integer.proofs.Laws.Once.{RoundedOnce, sum-once, plus-terms}
-use Rattle.fused_integer.proofs.Laws.Value.{add-values}
+use Rattle.binary64.proofs.Once.{sum-once, plus-terms}
+use Rattle.binary64.proofs.Values.{value-sign, value-one, value-finite, product-round, add-values}
+use Rattle.binary64.specs.Format.{lowest}
 
--- ---- a value has one sign and one size
+-- ---- a finite sum has a finite first term
 
-pub value-sign : (x : Float) (s t : Bool) (a b c : ℕ) → HasValue x s a c → HasValue x t b c → s ≡ t
-value-sign nan s t a b c p q = absurd p
-value-sign (inf u) s t a b c p q = absurd p
-value-sign (fin u m e) s t a b c p q = sym (p .0) ∙ q .0
-
-pub value-one : (x : Float) (s t : Bool) (a b c : ℕ) → 0 < c → HasValue x s a c → HasValue x t b c → a ≡ b
-value-one nan s t a b c C p q = absurd p
-value-one (inf u) s t a b c C p q = absurd p
-value-one (fin u m e) s t a b c C p q = eq-of-mul-eq-mul-right (down e) (down-pos e) a b (sym (p .1) ∙ q .1)
-
--- ---- the product, rounded
-
-pub product-round : (x y : Float) (s t : Bool) (n k l : ℕ) → 0 < l → HasValue x s n l → HasValue y t k l
-    → mul binary64 x y ≡ round binary64 (unlike s t) (n * k) (l * l)
-unfolding mul
-product-round nan y s t n k l L h j = absurd h
-product-round (inf u) y s t n k l L h j = absurd h
-product-round (fin u m e) nan s t n k l L h j = absurd j
-product-round (fin u m e) (inf v) s t n k l L h j = absurd j
-product-round (fin u m e) (fin v i d) s t n k l L h j =
-    ap (λ (b : Bool). round binary64 (unlike b v) (m * up e * (i * up d)) (down e * down d)) (h .0)
-    ∙ ap (λ (b : Bool). round binary64 (unlike s b) (m * up e * (i * up d)) (down e * down d)) (j .0)
-    ∙ round-same binary64 (unlike s t) (m * up e * (i * up d)) (down e * down d) (n * k) (l * l) (mul-pos (down-pos e) (down-pos d)) (mul-pos L L)
-    (sort₁ (m * up e) (i * up d) l ∙ ap (λ (w : ℕ). w * (i * up d * l)) (h .1) ∙ ap (λ (w : ℕ). n * down e * w) (j .1) ∙ sort₂ n (down e) k (down d))
-  where
-    sort₁ : (a b l : ℕ) → a * b * (l * l) ≡ a * l * (b * l)
-    sort₁ a b l = simp (mul-assoc, mul-left-comm)
-
-    sort₂ : (n d k c : ℕ) → n * d * (k * c) ≡ n * k * (d * c)
-    sort₂ n d k c = simp (mul-assoc, mul-left-comm)
-
--- a finite sum has a finite first term
 first-finite : (p z : Float) (s r : Bool) (b w l : ℕ) → HasValue z s b l → HasValue (add binary64 p z) r w l → T (finite p)
 unfolding add
 first-finite nan z s r b w l q h = absurd h
@@ -59,11 +28,6 @@ first-finite (inf u) nan s r b w l q h = absurd q
 first-finite (inf u) (inf v) s r b w l q h = absurd q
 first-finite (inf u) (fin v n d) s r b w l q h = absurd h
 first-finite (fin u m e) z s r b w l q h = tt
-
-pub value-finite : (x : Float) (s : Bool) (a c : ℕ) → HasValue x s a c → T (finite x)
-value-finite nan s a c h = absurd h
-value-finite (inf u) s a c h = absurd h
-value-finite (fin u m e) s a c h = tt
 
 -- ---- the two operations on ±a and ±b: the product a is rounded to g, and the sum of ±g and ±b, which is v, to w; minus where cp and cz. a is in units of
 -- the smallest value's square, the others in units of the smallest value
@@ -73,8 +37,8 @@ pub record TwoRoundings (cp : Bool) (a : ℕ) (cz : Bool) (b w : ℕ) : Type 0 w
   pub v : ℕ
   pub exact : taken cp g cz b v ≡ added cp g cz b
   -- each errs by half a unit of its last digit at most
-  pub first : Near (g * (2 ^ 1074 * 2 ^ 1074)) (a * 2 ^ 1074) (2 ^ 1074 * 2 ^ 1074 * 2 ^ drop 53 (a * 2 ^ 1074) (2 ^ 1074 * 2 ^ 1074))
-  pub second : Near (w * 2 ^ 1074) (v * 2 ^ 1074) (2 ^ 1074 * 2 ^ drop 53 (v * 2 ^ 1074) (2 ^ 1074))
+  pub first : Near (g * (2 ^ lowest * 2 ^ lowest)) (a * 2 ^ lowest) (2 ^ lowest * 2 ^ lowest * 2 ^ drop 53 (a * 2 ^ lowest) (2 ^ lowest * 2 ^ lowest))
+  pub second : Near (w * 2 ^ lowest) (v * 2 ^ lowest) (2 ^ lowest * 2 ^ drop 53 (v * 2 ^ lowest) (2 ^ lowest))
 
 -- ±v = ±g ± b, with the sign of v carried over
 oriented : (np nz nt : Bool) (v g b : ℕ) → cond nt 0 v + (cond np g 0 + cond nz b 0) ≡ cond nt v 0 + (cond np 0 g + cond nz 0 b)
@@ -154,16 +118,6 @@ module _ (x y z : Float) (s t u r : Bool) (n k b w : ℕ) (X : HasValue x s n (2
 
 -- ---- the two errors together
 
-pub near-cancel : (v w u l : ℕ) → 0 < l → Near (v * l) (w * l) (u * l) → Near v w u
-near-cancel v w u l L h = (
-  le-of-mul-le-mul-right (le-trans (le-of-eq (mul-right-comm v 2 l)) (le-trans (h .0) (le-of-eq (back w)))) L,
-  le-of-mul-le-mul-right
-      (le-trans (le-of-eq (mul-right-comm w 2 l)) (le-trans (h .1) (le-of-eq (back v)))) L,
-)
-  where
-    back : (w : ℕ) → w * l * 2 + u * l ≡ (w * 2 + u) * l
-    back w = ap (λ (x : ℕ). x + u * l) (mul-right-comm w l 2) ∙ sym (add-mul (w * 2) u l)
-
 near-more : (v w u t : ℕ) → Near v w u → u ≤ t → Near v w t
 near-more v w u t h k = omega arith
 
@@ -207,33 +161,33 @@ both-near cp cz a b g v w l p t L h k e =
     (near-total (v * l) (w * l) (cond cp (g * l) 0 + cond cz (b * l) 0) (added cp (g * l) cz (b * l)) (t * l) second total)
 
 -- the last digit of the product is 2 ^ 53 units at most
-product-unit : (a e : ℕ) → a < 2 ^ (106 + e) → 968 ≤ e → drop 53 (a * 2 ^ 1074) (2 ^ 1074 * 2 ^ 1074) ≤ e - 1021
+product-unit : (a e : ℕ) → a < 2 ^ (106 + e) → 968 ≤ e → drop 53 (a * 2 ^ lowest) (2 ^ lowest * 2 ^ lowest) ≤ e - 1021
 product-unit a e h E =
-    let q : a * 2 ^ 1074 / (2 ^ 1074 * 2 ^ 1074) ≡ a / 2 ^ 1074 = native.Mathlib.Nat.mul-div-mul-right a (2 ^ 1074) (pow-pos 1074) in
+    let q : a * 2 ^ lowest / (2 ^ lowest * 2 ^ lowest) ≡ a / 2 ^ lowest = native.Mathlib.Nat.mul-div-mul-right a (2 ^ lowest) (pow-pos lowest) in
     subst (λ (x : ℕ). size x - 53 ≤ e - 1021) (sym q)
-    (less (size (a / 2 ^ 1074)) e (lib.Ieee.Digits.size-le (a / 2 ^ 1074) (e - 968)
-    (lib.Pow.shr-lt (e - 968) 1074 (subst (λ (x : ℕ). a < 2 ^ x) (places e E) h))))
+    (less (size (a / 2 ^ lowest)) e (lib.Ieee.Digits.size-le (a / 2 ^ lowest) (e - 968)
+    (lib.Pow.shr-lt (e - 968) lowest (subst (λ (x : ℕ). a < 2 ^ x) (places e E) h))))
   where
-    places : (e : ℕ) → 968 ≤ e → 106 + e ≡ e - 968 + 1074
+    places : (e : ℕ) → 968 ≤ e → 106 + e ≡ e - 968 + lowest
     places e h = omega arith
 
     less : (z e : ℕ) → z ≤ e - 968 → z - 53 ≤ e - 1021
     less z e h = omega arith
 
 -- the last digit of the sum: at most twice that of w
-sum-unit : (v w e : ℕ) → w < 2 ^ (52 + e) → Near (w * 2 ^ 1074) (v * 2 ^ 1074) (2 ^ 1074 * 2 ^ drop 53 (v * 2 ^ 1074) (2 ^ 1074))
-    → drop 53 (v * 2 ^ 1074) (2 ^ 1074) ≤ e
+sum-unit : (v w e : ℕ) → w < 2 ^ (52 + e) → Near (w * 2 ^ lowest) (v * 2 ^ lowest) (2 ^ lowest * 2 ^ drop 53 (v * 2 ^ lowest) (2 ^ lowest))
+    → drop 53 (v * 2 ^ lowest) (2 ^ lowest) ≤ e
 sum-unit v w e h n = go (size v - 53) refl
   where
-    q : v * 2 ^ 1074 / 2 ^ 1074 ≡ v
-    q = native.Mathlib.Nat.mul-div-cancel v (pow-pos 1074)
+    q : v * 2 ^ lowest / 2 ^ lowest ≡ v
+    q = native.Mathlib.Nat.mul-div-cancel v (pow-pos lowest)
 
-    d : drop 53 (v * 2 ^ 1074) (2 ^ 1074) ≡ size v - 53
+    d : drop 53 (v * 2 ^ lowest) (2 ^ lowest) ≡ size v - 53
     d = ap (λ (x : ℕ). size x - 53) q
 
     near : Near w v (2 ^ (size v - 53))
-    near = near-cancel w v (2 ^ (size v - 53)) (2 ^ 1074) (pow-pos 1074)
-        (subst (λ (x : ℕ). Near (w * 2 ^ 1074) (v * 2 ^ 1074) x) (ap (λ (x : ℕ). 2 ^ 1074 * 2 ^ x) d ∙ mul-comm (2 ^ 1074) (2 ^ (size v - 53))) n)
+    near = near-cancel w v (2 ^ (size v - 53)) (2 ^ lowest) (pow-pos lowest)
+        (subst (λ (x : ℕ). Near (w * 2 ^ lowest) (v * 2 ^ lowest) x) (ap (λ (x : ℕ). 2 ^ lowest * 2 ^ x) d ∙ mul-comm (2 ^ lowest) (2 ^ (size v - 53))) n)
 
     place : (z k : ℕ) → z - 53 ≡ suc k → 52 + suc k < z
     place z k e = omega arith
@@ -244,7 +198,7 @@ sum-unit v w e h n = go (size v - 53) refl
     last : (k e : ℕ) → 51 + suc k < 52 + e → suc k ≤ e
     last k e h = omega arith
 
-    go : (k : ℕ) → size v - 53 ≡ k → drop 53 (v * 2 ^ 1074) (2 ^ 1074) ≤ e
+    go : (k : ℕ) → size v - 53 ≡ k → drop 53 (v * 2 ^ lowest) (2 ^ lowest) ≤ e
     go zero E = subst (λ (x : ℕ). x ≤ e) (sym (d ∙ E)) Prim.Native.Nat.zero-le
     go (suc k) E =
         let y : 2 ^ (52 + suc k) ≤ v = lib.Ieee.Digits.size-reaches v (52 + suc k) (place (size v) k E) in
@@ -264,22 +218,22 @@ sum-unit v w e h n = go (size v - 53) refl
 
 -- in units of 2 ^ (e - 2148), of which the product is p, z is y and the candidate c: the candidate is near the exact sum
 pub candidate-error : (cp cz : Bool) (a b w e i m c p y : ℕ) → TwoRoundings cp a cz b w → a < 2 ^ (106 + e) → 1021 ≤ e → w < 2 ^ (52 + i)
-    → i + 1074 ≡ m + 1 + e → a ≡ p * 2 ^ e → b * 2 ^ 1074 ≡ y * 2 ^ e → w * 2 ^ 1074 ≡ c * 2 ^ e
+    → i + lowest ≡ m + 1 + e → a ≡ p * 2 ^ e → b * 2 ^ lowest ≡ y * 2 ^ e → w * 2 ^ lowest ≡ c * 2 ^ e
     → Near (taken cp p cz y c) (added cp p cz y) (2 ^ (m + 1) + 2 ^ 53)
 candidate-error cp cz a b w e i m c p y o small E lw I A B C =
-    let l = 2 ^ 1074 in
+    let l = 2 ^ lowest in
     let g = o .g in
     let v = o .v in
     let j = drop 53 (a * l) (l * l) in
     let t = drop 53 (v * l) l in
     let h : Near (taken cp a cz (b * l) (w * l)) (added cp a cz (b * l)) (2 ^ t * l + 2 ^ j * l) =
-    both-near cp cz a b g v w l (2 ^ j) (2 ^ t) (pow-pos 1074) (o .first) (o .second) (o .exact) in
+    both-near cp cz a b g v w l (2 ^ j) (2 ^ t) (pow-pos lowest) (o .first) (o .second) (o .exact) in
     let ht : 2 ^ t * l ≤ 2 ^ (m + 1) * 2 ^ e =
-    le-trans (le-of-eq (sym (pow-add 2 t 1074)))
-    (le-trans (lib.Pow.pow-mono (subst (λ (q : ℕ). t + 1074 ≤ q) I (raise t i 1074 (sum-unit v w i lw (o .second)))))
+    le-trans (le-of-eq (sym (pow-add 2 t lowest)))
+    (le-trans (lib.Pow.pow-mono (subst (λ (q : ℕ). t + lowest ≤ q) I (raise t i lowest (sum-unit v w i lw (o .second)))))
     (le-of-eq (pow-add 2 (m + 1) e))) in
     let hp : 2 ^ j * l ≤ 2 ^ 53 * 2 ^ e =
-    le-trans (le-of-eq (sym (pow-add 2 j 1074)))
+    le-trans (le-of-eq (sym (pow-add 2 j lowest)))
     (le-trans (lib.Pow.pow-mono (total j e E (product-unit a e small (weak e E)))) (le-of-eq (pow-add 2 53 e))) in
     let u = (2 ^ (m + 1) + 2 ^ 53) * 2 ^ e in
     let more : Near (taken cp a cz (b * l) (w * l)) (added cp a cz (b * l)) u =
@@ -295,7 +249,7 @@ candidate-error cp cz a b w e i m c p y o small E lw I A B C =
     raise : (t i k : ℕ) → t ≤ i → t + k ≤ i + k
     raise t i k h = omega arith
 
-    total : (p e : ℕ) → 1021 ≤ e → p ≤ e - 1021 → p + 1074 ≤ 53 + e
+    total : (p e : ℕ) → 1021 ≤ e → p ≤ e - 1021 → p + lowest ≤ 53 + e
     total p e h k = omega arith
 
     weak : (e : ℕ) → 1021 ≤ e → 968 ≤ e

@@ -1,4 +1,4 @@
--- The rest of x * y + z over the hardware's sum t, as one word (`rest-law`), and t plus the float that a cut rest stands for (`last-sum`).
+-- The rest of x * y + z over the hardware's sum t, as one word (`residual-law`), and t plus the float that a cut rest stands for (`last-sum`).
 use mathlib.Core.Path.{_≡_, sym, _∙_}
 use mathlib.Core.Logic.{_⊎_, inl, inr}
 use mathlib.Core.Bool.{Bool, true, false, not, cond}
@@ -7,10 +7,13 @@ use native.Mathlib.Nat.{zero-mul, eq-zero-or-pos, eq-or-lt-of-le}
 use native.Mathlib.Omega.{arith}
 use lib.Ieee.{Float, binary64, unlike, round, add}
 use lib.Ieee.Exact.{HasValue}
-use Rattle.fused_guided.specs.Guided.{Rest}
+use Rattle.fused_guided.specs.Guided.{Residual}
 use Rattle.fused_multiply_add.specs.Residual.{Fits, added, taken}
-use Rattle.fused_integer.proofs.Laws.Value.{add-units}
-use Rattle.fused_guided.proofs.Laws.Guided.{sum-is, units-shift}
+use Rattle.binary64.proofs.Values.{add-units}
+use Rattle.fused_guided.proofs.Laws.Terms.{units-shift}
+use Rattle.fused_guided.proofs.Laws.Guided.{sum-is}
+use Rattle.binary64.specs.Format.{lowest}
+use Rattle.binary64.specs.Nearest.{den}
 
 -- ---- the rest as one word
 
@@ -43,10 +46,10 @@ window : (x y t : ℕ) → x % 2 ^ 64 ≡ y % 2 ^ 64 → t ≤ x → x < t + 2 ^
 window x y t e a b c d = omega arith
 
 -- p, y and c are the low words of a, z and t, and p′ and y′ those of ±a and ±z
-pub rest-law : (cp cz : Bool) (a z t p p′ y y′ lo c d r : ℕ) → p ≡ a % 2 ^ 64 → (p′ + cond cp p 0) % 2 ^ 64 ≡ cond cp 0 p
+pub residual-law : (cp cz : Bool) (a z t p p′ y y′ lo c d r : ℕ) → p ≡ a % 2 ^ 64 → (p′ + cond cp p 0) % 2 ^ 64 ≡ cond cp 0 p
     → y ≡ z % 2 ^ 64 → (y′ + cond cz y 0) % 2 ^ 64 ≡ cond cz 0 y → lo ≡ (p′ + y′) % 2 ^ 64 → c ≡ t % 2 ^ 64 → (d + c) % 2 ^ 64 ≡ lo
     → r ≡ (d + 2 ^ 63) % 2 ^ 64 → Fits cp a cz z t → r + taken cp a cz z t ≡ added cp a cz z + 2 ^ 63
-rest-law cp cz a z t p p′ y y′ lo c d r P P′ Y Y′ LO C D R f =
+residual-law cp cz a z t p p′ y y′ lo c d r P P′ Y Y′ LO C D R f =
     let m = taken cp a cz z t in
     let n = added cp a cz z in
     window (r + m) (n + 2 ^ 63) m
@@ -70,9 +73,9 @@ rest-law cp cz a z t p p′ y y′ lo c d r P P′ Y Y′ LO C D R f =
 -- ---- the last sum
 
 -- t of the sign s and d of the sign q, in units of 2 ^ (b - 2148)
-signed-sum : (t d : Float) (s q : Bool) (w v c e b y : ℕ) → HasValue t s w (2 ^ 1074) → HasValue d q v (2 ^ 1074) → w * 2 ^ 1074 ≡ c * 2 ^ b
-    → v * 2 ^ 1074 ≡ e * 2 ^ b → 0 < y → y + cond (unlike q s) e 0 ≡ c + cond (unlike q s) 0 e
-    → add binary64 t d ≡ round binary64 s (y * 2 ^ b) (2 ^ (1074 + 1074))
+signed-sum : (t d : Float) (s q : Bool) (w v c e b y : ℕ) → HasValue t s w (2 ^ lowest) → HasValue d q v (2 ^ lowest) → w * 2 ^ lowest ≡ c * 2 ^ b
+    → v * 2 ^ lowest ≡ e * 2 ^ b → 0 < y → y + cond (unlike q s) e 0 ≡ c + cond (unlike q s) 0 e
+    → add binary64 t d ≡ round binary64 s (y * 2 ^ b) den
 signed-sum t d s q w v c e b y W D C E some total =
     add-units t d s q w v (c * 2 ^ b) (e * 2 ^ b) W D C E ∙ sym (sum-is y c e b some s q s (own s (cond (unlike q s) e 0) (cond (unlike q s) 0 e) total))
   where
@@ -84,8 +87,8 @@ signed-sum t d s q w v c e b y W D C E some total =
     own false m n e = plus m n e
 
 -- t and the rest that a cut word f stands for
-pub last-sum : (t d : Float) (s : Bool) (w f e c b y : ℕ) → HasValue t s w (2 ^ 1074) → Rest s d f e → e - 1 + 1074 ≡ 12 + b → w * 2 ^ 1074 ≡ c * 2 ^ b
-    → 0 < y → y + 2 ^ 63 ≡ c + f * 4096 → add binary64 t d ≡ round binary64 s (y * 2 ^ b) (2 ^ (1074 + 1074))
+pub last-sum : (t d : Float) (s : Bool) (w f e c b y : ℕ) → HasValue t s w (2 ^ lowest) → Residual s d f e → e - 1 + lowest ≡ 12 + b → w * 2 ^ lowest ≡ c * 2 ^ b
+    → 0 < y → y + 2 ^ 63 ≡ c + f * 4096 → add binary64 t d ≡ round binary64 s (y * 2 ^ b) den
 last-sum t d s w f e c b y W R E C some Y = go (three f (2 ^ 51))
   where
     three : (a b : ℕ) → (b < a) ⊎ ((a ≡ b) ⊎ (a < b))
@@ -100,8 +103,8 @@ last-sum t d s w f e c b y W R E C some Y = go (three f (2 ^ 51))
         sub-some : (a b : ℕ) → 0 < a - b → b < a
         sub-some a b h = omega arith
 
-    part : (n : ℕ) → n * 2 ^ (e - 1) * 2 ^ 1074 ≡ n * 4096 * 2 ^ b
-    part n = units-shift n (e - 1) 1074 12 b E
+    part : (n : ℕ) → n * 2 ^ (e - 1) * 2 ^ lowest ≡ n * 4096 * 2 ^ b
+    part n = units-shift n (e - 1) lowest 12 b E
 
     up-is : (s : Bool) (y c f : ℕ) → y + 2 ^ 63 ≡ c + f * 4096 → 2 ^ 51 < f
         → y + cond (unlike s s) ((f - 2 ^ 51) * 4096) 0 ≡ c + cond (unlike s s) 0 ((f - 2 ^ 51) * 4096)
@@ -117,9 +120,9 @@ last-sum t d s w f e c b y W R E C some Y = go (three f (2 ^ 51))
     down-is true y c f e h = omega arith
     down-is false y c f e h = omega arith
 
-    go : (2 ^ 51 < f) ⊎ ((f ≡ 2 ^ 51) ⊎ (f < 2 ^ 51)) → add binary64 t d ≡ round binary64 s (y * 2 ^ b) (2 ^ (1074 + 1074))
+    go : (2 ^ 51 < f) ⊎ ((f ≡ 2 ^ 51) ⊎ (f < 2 ^ 51)) → add binary64 t d ≡ round binary64 s (y * 2 ^ b) den
     go (inl h) =
         signed-sum t d s s w ((f - 2 ^ 51) * 2 ^ (e - 1)) c ((f - 2 ^ 51) * 4096) b y W (R .plus h) C (part (f - 2 ^ 51)) some (up-is s y c f Y h)
-    go (inr (inl h)) = signed-sum t d s false w 0 c 0 b y W (R .none h) C (zero-mul (2 ^ 1074) ∙ sym (zero-mul (2 ^ b))) some (same-is s y c f Y h)
+    go (inr (inl h)) = signed-sum t d s false w 0 c 0 b y W (R .none h) C (zero-mul (2 ^ lowest) ∙ sym (zero-mul (2 ^ b))) some (same-is s y c f Y h)
     go (inr (inr h)) =
         signed-sum t d s (not s) w ((2 ^ 51 - f) * 2 ^ (e - 1)) c ((2 ^ 51 - f) * 4096) b y W (R .minus h) C (part (2 ^ 51 - f)) some (down-is s y c f Y h)

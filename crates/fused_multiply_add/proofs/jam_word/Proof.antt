@@ -1,4 +1,4 @@
--- The word over 2 ^ 12, with a sticky bit for the rest: `jam-below`.
+-- The word over 2 ^ 12, with a sticky bit for what is cut off: `jam-below`.
 use Prim.Native.Nat.{_^_}
 use lib.Pow.{pow-pos}
 use borrow.Author.Needs.{needs}

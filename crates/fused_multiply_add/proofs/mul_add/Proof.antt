@@ -1,22 +1,21 @@
--- With a zero as z the product is the answer (`lone-product`). Else t is near the exact sum (`close`), so the rest fits one word; adding the rest, cut with
+-- With a zero as z the product is the answer (`lone-product`). Else t is near the exact sum (`close`), so the residual fits one word; adding the residual, cut with
 -- a sticky bit, rounds as the exact sum does (`residual-law`). Without the tests it is `guided`'s. A NaN among the three makes t one. e1 and on are the
 -- places before the tests.
 use mathlib.Core.Path.{_≡_, sym, ap, _∙_, subst}
 use mathlib.Core.Bool.{Bool, not}
-use Prim.Native.Nat.{ℕ, _+_, _≤_, _<_}
-use native.Mathlib.Omega.{arith}
 use mir.Facts.{fits-below}
 use borrow.Author.Needs.{needs}
 use borrow.Author.Tests.{not-false}
 use lib.Dec.{T}
 use lib.Ieee.{binary64, fits, unlike, add, mul, isNan}
 use Rattle.binary64.proofs.Pattern.{self-equal}
-use Rattle.fused_integer.proofs.Laws.Value.{signOf}
-use Rattle.fused_multiply_add.proofs.Laws.Tests.{number-x, number-y, number-z}
-use Rattle.fused_multiply_add.proofs.Laws.Tests.{Reach, reach-is}
-use Rattle.fused_multiply_add.proofs.Laws.Candidate.{place-word, exponent-low, exponent-some, exponent-most, close, residual-law}
+use Rattle.binary64.proofs.Reading.{signOf}
+use Rattle.fused_multiply_add.proofs.Laws.Numbers.{number-x, number-y, number-z}
+use Rattle.fused_guided.proofs.Laws.Tests.{Reach, reach-is}
+use Rattle.fused_guided.proofs.Laws.Terms.{RestPlace, rest-place}
+use Rattle.fused_multiply_add.proofs.Laws.Candidate.{place-word, close, residual-law}
 use Rattle.fused_integer.proofs.Laws.Cases.{lone-product}
-use Rattle.fused_multiply_add.specs.Residual.{loneProduct}
+use Rattle.fused_multiply_add.specs.Residual.{loneProduct, residualBias, leastPlace}
 use Rattle.fused_multiply_add.proofs.mul_add.Statement.{statement}
 use Rattle.fused_multiply_add.proofs.mul_add.Tie as tie
 
@@ -49,19 +48,22 @@ guided-requires c κs =
     let e6 = e5 .before in let e7 = e6 .before in let e8 = e7 .before in
     (float-to-bits-bx e8, (float-to-bits-by e8, (float-to-bits-bz e8, number-t e8)))
 
-ok-there : (e : tie.Else3) → Reach (e .before .before .before .before .before .before .before .field .result)
-    (e .before .before .before .before .before .before .field2 .result)
-    (e .before .before .before .before .wrapping-sub-u64 .result) (e .before .before .wrapping-sub-u642 .result)
+ok-there : (e : tie.Else3) → let e4 = e .before .before .before .before in Reach leastPlace (e4 .before .before .before .field .result)
+    (e4 .before .before .field2 .result)
+    (e4 .wrapping-sub-u64 .result) (e .before .before .wrapping-sub-u642 .result)
 ok-there e =
     let e1 = e .before in let e2 = e1 .before in let e3 = e2 .before in let e4 = e3 .before in let e5 = e4 .before in
     let e6 = e5 .before in let e7 = e6 .before in
-    reach-is (e7 .field .result) (e6 .field2 .result) (e4 .wrapping-sub-u64 .result) (e2 .wrapping-sub-u642 .result)
+    reach-is leastPlace (e7 .field .result) (e6 .field2 .result) (e4 .wrapping-sub-u64 .result) (e2 .wrapping-sub-u642 .result)
     (sym (e1 .reach .ensures) ∙ not-false (e1 .reach .result) (e .if3 .left))
 
 -- where the product's sign differs from t's, and where z's does
 product-sign : (c : tie.After-opposite2)
     → let n = c .before .before .before .before in
-    let s = n .before .before .before .before .before .before .before .before .before .before .before .before in
+    let n4 = n .before .before .before .before in
+    let n8 = n4 .before .before .before .before in
+    let n12 = n8 .before .before .before .before in
+    let s = n12 in
     c .opposite2 .result ≡ unlike (unlike (signOf (s .args .x)) (signOf (s .args .y))) (n .minus-sign .result)
 product-sign c =
     let o = c .before in let y = o .before in let x = y .before in let n = x .before in
@@ -74,14 +76,18 @@ product-sign c =
 
 addend-sign : (c : tie.After-opposite3)
     → let n = c .before .before .before .before .before .before in
-    let s = n .before .before .before .before .before .before .before .before .before .before .before .before in
+    let n4 = n .before .before .before .before in
+    let n8 = n4 .before .before .before .before in
+    let n12 = n8 .before .before .before .before in
+    let s = n12 in
     c .opposite3 .result ≡ unlike (signOf (s .args .z)) (n .minus-sign .result)
 addend-sign c =
-    let n = c .before .before .before .before .before .before in
+    let c4 = c .before .before .before .before in
+    let n = c4 .before .before in
     c .opposite3 .ensures ∙ ap (λ (w : Bool). unlike w (n .minus-sign .result)) (c .before .minus-sign4 .ensures)
 
-rest-word-requires : tie.Need-rest-word-requires
-rest-word-requires c κs =
+residual-word-requires : tie.Need-residual-word-requires
+residual-word-requires c κs =
     let b1 = c .before in let b2 = b1 .before in let b3 = b2 .before in let b4 = b3 .before in let b6 = b4 .before .before in
     let b10 = b6 .before .before .before .before in let b11 = b10 .before in
     let e1 = b11 .before in let e2 = e1 .before in let e3 = e2 .before in let e4 = e3 .before in let e5 = e4 .before in
@@ -90,26 +96,34 @@ rest-word-requires c κs =
       (ok .near-z, place-word (e2 .wrapping-sub-u642 .result) (ok .near-t)),
       close (s .args .x) (s .args .y) (s .args .z) (held-x s) (held-y s) (held-z s) (e7 .field .result) (e6 .field2 .result) (e5 .field3 .result)
           (e3 .field4 .result)
-          (e4 .wrapping-sub-u64 .result) (e2 .wrapping-sub-u642 .result) (b3 .digits .result) (b2 .digits2 .result) (b1 .digits3 .result) (c .digits4 .result)
+          (e4 .wrapping-sub-u64 .result) (e2 .wrapping-sub-u642 .result) (b3 .normal-significand .result) (b2 .normal-significand2 .result) (b1 .normal-significand3 .result) (c .normal-significand4 .result)
           (e7 .field .ensures) (e6 .field2 .ensures) (e5 .field3 .ensures) (e3 .field4 .ensures) (e4 .wrapping-sub-u64 .ensures)
-          (e2 .wrapping-sub-u642 .ensures) ok (b3 .digits .ensures) (b2 .digits2 .ensures) (b1 .digits3 .ensures) (c .digits4 .ensures)
+          (e2 .wrapping-sub-u642 .ensures) ok (b3 .normal-significand .ensures) (b2 .normal-significand2 .ensures) (b1 .normal-significand3 .ensures) (c .normal-significand4 .ensures)
           (b10 .minus-sign .result) (b6 .opposite2 .result) (b4 .opposite3 .result) (b10 .minus-sign .ensures) (product-sign b6) (addend-sign b4),
     )
 
-sub-rest-float : tie.Need-sub-rest-float
-sub-rest-float c =
-    let b9 = c .before .before .before .before .before .before .before .before .before .before .before .before .before in
-    let e6 = b9 .before .before .before .before .before .before in
-    exponent-low (e6 .before .field .result) (e6 .field2 .result) (ok-there b9 .low-x) (ok-there b9 .low-y)
+-- the exponent of the residual
+rest-there : (e : tie.Else3) → let e4 = e .before .before .before .before in RestPlace residualBias (e4 .before .before .before .field .result)
+    (e4 .before .before .field2 .result)
+rest-there e =
+    let e4 = e .before .before .before .before in
+    let e6 = e4 .before .before in
+    rest-place residualBias (e6 .before .field .result) (e6 .field2 .result) (lib.Dec.lit≤ tt) (lib.Dec.lit< tt) (ok-there e .factors)
 
-rest-float-requires : tie.Need-rest-float-requires
-rest-float-requires c κs =
-    let b9 = c .before .before .before .before .before .before .before .before .before .before .before .before .before in
-    let e6 = b9 .before .before .before .before .before .before in
-    let x = e6 .before .field .result in
-    let y = e6 .field2 .result in
-    let ok = ok-there b9 in
-    (c .jam-word .ensures .1, (exponent-some x y (ok .low-x) (ok .low-y), exponent-most x y (ok .high-x) (ok .high-y)))
+sub-residual-float : tie.Need-sub-residual-float
+sub-residual-float c =
+    let c4 = c .before .before .before .before in
+    let c8 = c4 .before .before .before .before in
+    let c12 = c8 .before .before .before .before in
+    rest-there (c12 .before) .low
+
+residual-float-requires : tie.Need-residual-float-requires
+residual-float-requires c κs =
+    let c4 = c .before .before .before .before in
+    let c8 = c4 .before .before .before .before in
+    let c12 = c8 .before .before .before .before in
+    let r = rest-there (c12 .before) in
+    (c .jam-word .ensures .1, (r .some, r .most))
 
 returns : tie.Need-returns
 unfolding loneProduct
@@ -132,20 +146,18 @@ returns-4 c =
     let e6 = e5 .before in let e7 = e6 .before in let s = e7 .before .before .before .before in
     residual-law (s .args .x) (s .args .y) (s .args .z) (held-x s) (held-y s) (held-z s) (e7 .field .result) (e6 .field2 .result) (e5 .field3 .result)
     (e3 .field4 .result)
-    (e4 .wrapping-sub-u64 .result) (e2 .wrapping-sub-u642 .result) (b3 .digits .result) (b2 .digits2 .result) (b1 .digits3 .result) (d .digits4 .result)
+    (e4 .wrapping-sub-u64 .result) (e2 .wrapping-sub-u642 .result) (b3 .normal-significand .result) (b2 .normal-significand2 .result) (b1 .normal-significand3 .result) (d .normal-significand4 .result)
     (e7 .field .ensures) (e6 .field2 .ensures) (e5 .field3 .ensures) (e3 .field4 .ensures) (e4 .wrapping-sub-u64 .ensures)
-    (e2 .wrapping-sub-u642 .ensures) (ok-there b11) (b3 .digits .ensures) (b2 .digits2 .ensures) (b1 .digits3 .ensures) (d .digits4 .ensures)
+    (e2 .wrapping-sub-u642 .ensures) (ok-there b11) (b3 .normal-significand .ensures) (b2 .normal-significand2 .ensures) (b1 .normal-significand3 .ensures) (d .normal-significand4 .ensures)
     (b10 .minus-sign .result) (b6 .opposite2 .result) (b4 .opposite3 .result) (b10 .minus-sign .ensures) (product-sign b6) (addend-sign b4)
-    (w .rest-word .result) (j .jam-word .result) (c .rest-float .result) (w .rest-word .ensures) (j .jam-word .ensures .0) (c .rest-float .ensures)
+    (w .residual-word .result) (j .jam-word .result) (c .residual-float .result) (w .residual-word .ensures) (j .jam-word .ensures .0) (c .residual-float .ensures)
 
-add-rest-float : tie.Need-add-rest-float
-add-rest-float c =
-    let b9 = c .before .before .before .before .before .before .before .before .before .before .before .before .before in
-    let e6 = b9 .before .before .before .before .before .before in
-    fits-below tt (most (e6 .before .field .result) (e6 .field2 .result) (ok-there b9 .high-x) (ok-there b9 .high-y))
-  where
-    most : (e d : ℕ) → e < 1280 → d < 1280 → e + d ≤ 2560
-    most e d h k = omega arith
+add-residual-float : tie.Need-add-residual-float
+add-residual-float c =
+    let c4 = c .before .before .before .before in
+    let c8 = c4 .before .before .before .before in
+    let c12 = c8 .before .before .before .before in
+    fits-below tt (rest-there (c12 .before) .top)
 
 pub mul-add-spec : {M : Type 1} → statement M
 mul-add-spec =
@@ -153,4 +165,4 @@ mul-add-spec =
     (tie.spec (search needs) returns (search needs) returns-2 float-to-bits-bx float-to-bits-by float-to-bits-bz number-t (search needs) (search needs)
     (search needs) (search needs) (search needs) (search needs) (search needs) (search needs) (search needs) (search needs) (search needs) guided-requires
     returns-3 (search needs) (search needs) (search needs) (search needs) (search needs) (search needs) (search needs) (search needs) (search needs) (search needs) (search needs)
-    rest-word-requires (search needs) add-rest-float sub-rest-float rest-float-requires returns-4)
+    residual-word-requires (search needs) add-residual-float sub-residual-float residual-float-requires returns-4)

@@ -8,12 +8,13 @@ use borrow.Author.Tests.{not-false, lt-leb}
 use lib.Dec.{T}
 use lib.Ieee.{binary64, fits, unlike, add, mul, toBits}
 use Rattle.binary64.proofs.Pattern.{self-equal}
-use Rattle.fused_integer.proofs.Laws.Value.{signOf}
-use Rattle.fused_multiply_add.proofs.Laws.Tests.{number-x, number-z}
-use Rattle.fused_multiply_add.proofs.Laws.Tests.{Reach, reach-is}
-use Rattle.fused_multiply_add.proofs.Laws.Candidate.{place-word, exponent-low, exponent-some, exponent-most, t-plus, close, residual-law}
+use Rattle.binary64.proofs.Reading.{signOf}
+use Rattle.fused_multiply_add.proofs.Laws.Numbers.{number-x, number-z}
+use Rattle.fused_guided.proofs.Laws.Tests.{Reach, reach-is}
+use Rattle.fused_guided.proofs.Laws.Terms.{RestPlace, rest-place}
+use Rattle.fused_multiply_add.proofs.Laws.Candidate.{place-word, t-plus, close, residual-law}
 use Rattle.fused_integer.proofs.Laws.Cases.{lone-product}
-use Rattle.fused_multiply_add.specs.Residual.{loneProduct}
+use Rattle.fused_multiply_add.specs.Residual.{loneProduct, residualBias, leastPlace}
 use Rattle.fused_multiply_add.proofs.square_add.Statement.{statement}
 use Rattle.fused_multiply_add.proofs.square_add.Tie as tie
 
@@ -40,16 +41,18 @@ float-to-bits-bt c =
 
 guided-requires : tie.Need-guided-requires
 guided-requires c κs =
-    let e8 = c .before .before .before .before .before .before .before .before in
+    let c4 = c .before .before .before .before in
+    let c8 = c4 .before .before .before .before in
+    let e8 = c8 in
     (float-to-bits-bx e8, (float-to-bits-bx e8, (float-to-bits-bz e8, float-to-bits-bt e8)))
 
-ok-there : (e : tie.Else4) → Reach (e .before .before .before .before .before .before .field .result)
-    (e .before .before .before .before .before .before .field .result) (e .before .before .before .wrapping-sub-u64 .result)
+ok-there : (e : tie.Else4) → let e4 = e .before .before .before .before in Reach leastPlace (e4 .before .before .field .result)
+    (e4 .before .before .field .result) (e .before .before .before .wrapping-sub-u64 .result)
     (e .before .before .wrapping-sub-u642 .result)
 ok-there e =
     let e1 = e .before in let e2 = e1 .before in let e3 = e2 .before in let e4 = e3 .before in let e5 = e4 .before in
     let e6 = e5 .before in
-    reach-is (e6 .field .result) (e6 .field .result) (e3 .wrapping-sub-u64 .result) (e2 .wrapping-sub-u642 .result)
+    reach-is leastPlace (e6 .field .result) (e6 .field .result) (e3 .wrapping-sub-u64 .result) (e2 .wrapping-sub-u642 .result)
     (sym (e1 .reach .ensures) ∙ not-false (e1 .reach .result) (e .if4 .left))
 
 -- the square has no minus sign, nor has z
@@ -67,7 +70,7 @@ z-plus : (c : tie.Else3) → signOf (c .before .before .before .before .args .z)
 z-plus c = lt-leb (2 ^ 63) (toBits binary64 (c .before .before .before .before .args .z)) (c .if3 .left)
 
 -- nor has t
-t-sign : (c : tie.After-digits3)
+t-sign : (c : tie.After-normal-significand3)
     → let s = c .before .before .before .before .before .before .before .before .before .before .before .before .before .before in
     signOf (add binary64 (mul binary64 (s .args .x) (s .args .x)) (s .args .z)) ≡ false
 t-sign c =
@@ -76,12 +79,12 @@ t-sign c =
     let e6 = e5 .before in let e7 = e6 .before in let s = e7 .before .before .before .before in
     t-plus (s .args .x) (s .args .x) (s .args .z) (held-x s) (held-x s) (held-z s) (e6 .field .result) (e6 .field .result) (e5 .field2 .result)
     (e4 .field3 .result)
-    (e3 .wrapping-sub-u64 .result) (e2 .wrapping-sub-u642 .result) (b2 .digits .result) (b2 .digits .result) (b1 .digits2 .result) (c .digits3 .result)
+    (e3 .wrapping-sub-u64 .result) (e2 .wrapping-sub-u642 .result) (b2 .normal-significand .result) (b2 .normal-significand .result) (b1 .normal-significand2 .result) (c .normal-significand3 .result)
     (e6 .field .ensures) (e6 .field .ensures) (e5 .field2 .ensures) (e4 .field3 .ensures) (e3 .wrapping-sub-u64 .ensures) (e2 .wrapping-sub-u642 .ensures)
-    (ok-there b3) (b2 .digits .ensures) (b2 .digits .ensures) (b1 .digits2 .ensures) (c .digits3 .ensures) (square-plus (signOf (s .args .x))) (z-plus e7)
+    (ok-there b3) (b2 .normal-significand .ensures) (b2 .normal-significand .ensures) (b1 .normal-significand2 .ensures) (c .normal-significand3 .ensures) (square-plus (signOf (s .args .x))) (z-plus e7)
 
-rest-word-requires : tie.Need-rest-word-requires
-rest-word-requires c κs =
+residual-word-requires : tie.Need-residual-word-requires
+residual-word-requires c κs =
     let b1 = c .before in let b2 = b1 .before in let b3 = b2 .before in
     let e1 = b3 .before in let e2 = e1 .before in let e3 = e2 .before in let e4 = e3 .before in let e5 = e4 .before in
     let e6 = e5 .before in let e7 = e6 .before in let s = e7 .before .before .before .before in
@@ -89,26 +92,31 @@ rest-word-requires c κs =
       (ok .near-z, place-word (e2 .wrapping-sub-u642 .result) (ok .near-t)),
       close (s .args .x) (s .args .x) (s .args .z) (held-x s) (held-x s) (held-z s) (e6 .field .result) (e6 .field .result) (e5 .field2 .result)
           (e4 .field3 .result)
-          (e3 .wrapping-sub-u64 .result) (e2 .wrapping-sub-u642 .result) (b2 .digits .result) (b2 .digits .result) (b1 .digits2 .result)
-          (c .digits3 .result)
+          (e3 .wrapping-sub-u64 .result) (e2 .wrapping-sub-u642 .result) (b2 .normal-significand .result) (b2 .normal-significand .result) (b1 .normal-significand2 .result)
+          (c .normal-significand3 .result)
           (e6 .field .ensures) (e6 .field .ensures) (e5 .field2 .ensures) (e4 .field3 .ensures) (e3 .wrapping-sub-u64 .ensures)
           (e2 .wrapping-sub-u642 .ensures)
-          ok (b2 .digits .ensures) (b2 .digits .ensures) (b1 .digits2 .ensures) (c .digits3 .ensures) false false false
+          ok (b2 .normal-significand .ensures) (b2 .normal-significand .ensures) (b1 .normal-significand2 .ensures) (c .normal-significand3 .ensures) false false false
           (sym (t-sign c)) (product-sign (signOf (s .args .x))) (addend-sign (signOf (s .args .z)) (z-plus e7)),
     )
 
-sub-rest-float : tie.Need-sub-rest-float
-sub-rest-float c =
-    let b3 = c .before .before .before .before .before in
-    let x = b3 .before .before .before .before .before .before .field .result in
-    exponent-low x x (ok-there b3 .low-x) (ok-there b3 .low-x)
+-- the exponent of the residual
+rest-there : (e : tie.Else4) → let e4 = e .before .before .before .before in RestPlace residualBias (e4 .before .before .field .result)
+    (e4 .before .before .field .result)
+rest-there e =
+    let e4 = e .before .before .before .before in
+    let x = e4 .before .before .field .result in
+    rest-place residualBias x x (lib.Dec.lit≤ tt) (lib.Dec.lit< tt) (ok-there e .factors)
 
-rest-float-requires : tie.Need-rest-float-requires
-rest-float-requires c κs =
-    let b3 = c .before .before .before .before .before in
-    let x = b3 .before .before .before .before .before .before .field .result in
-    let ok = ok-there b3 in
-    (c .jam-word .ensures .1, (exponent-some x x (ok .low-x) (ok .low-x), exponent-most x x (ok .high-x) (ok .high-x)))
+sub-residual-float : tie.Need-sub-residual-float
+sub-residual-float c =
+    let c4 = c .before .before .before .before in
+    rest-there (c4 .before) .low
+
+residual-float-requires : tie.Need-residual-float-requires
+residual-float-requires c κs =
+    let c4 = c .before .before .before .before in
+    let r = rest-there (c4 .before) in (c .jam-word .ensures .1, (r .some, r .most))
 
 returns-5 : tie.Need-returns-5
 returns-5 c =
@@ -118,11 +126,11 @@ returns-5 c =
     let e6 = e5 .before in let e7 = e6 .before in let s = e7 .before .before .before .before in
     residual-law (s .args .x) (s .args .x) (s .args .z) (held-x s) (held-x s) (held-z s) (e6 .field .result) (e6 .field .result) (e5 .field2 .result)
     (e4 .field3 .result)
-    (e3 .wrapping-sub-u64 .result) (e2 .wrapping-sub-u642 .result) (b2 .digits .result) (b2 .digits .result) (b1 .digits2 .result) (d .digits3 .result)
+    (e3 .wrapping-sub-u64 .result) (e2 .wrapping-sub-u642 .result) (b2 .normal-significand .result) (b2 .normal-significand .result) (b1 .normal-significand2 .result) (d .normal-significand3 .result)
     (e6 .field .ensures) (e6 .field .ensures) (e5 .field2 .ensures) (e4 .field3 .ensures) (e3 .wrapping-sub-u64 .ensures) (e2 .wrapping-sub-u642 .ensures)
-    (ok-there b3) (b2 .digits .ensures) (b2 .digits .ensures) (b1 .digits2 .ensures) (d .digits3 .ensures) false false false
-    (sym (t-sign d)) (product-sign (signOf (s .args .x))) (addend-sign (signOf (s .args .z)) (z-plus e7)) (w .rest-word .result) (j .jam-word .result)
-    (c .rest-float .result) (w .rest-word .ensures) (j .jam-word .ensures .0) (c .rest-float .ensures)
+    (ok-there b3) (b2 .normal-significand .ensures) (b2 .normal-significand .ensures) (b1 .normal-significand2 .ensures) (d .normal-significand3 .ensures) false false false
+    (sym (t-sign d)) (product-sign (signOf (s .args .x))) (addend-sign (signOf (s .args .z)) (z-plus e7)) (w .residual-word .result) (j .jam-word .result)
+    (c .residual-float .result) (w .residual-word .ensures) (j .jam-word .ensures .0) (c .residual-float .ensures)
 
 returns : tie.Need-returns
 unfolding loneProduct
@@ -144,5 +152,5 @@ square-add-spec =
     tie.close
     (tie.spec (search needs) returns (search needs) returns-2 float-to-bits-bx float-to-bits-bz float-to-bits-bt (search needs) returns-3 (search needs)
     (search needs) (search needs) (search needs) (search needs) (search needs) (search needs) (search needs) (search needs) (search needs)
-    guided-requires returns-4 (search needs) (search needs) (search needs) rest-word-requires (search needs) (search needs) sub-rest-float
-    rest-float-requires returns-5)
+    guided-requires returns-4 (search needs) (search needs) (search needs) residual-word-requires (search needs) (search needs) sub-residual-float
+    residual-float-requires returns-5)

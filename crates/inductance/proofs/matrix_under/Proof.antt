@@ -13,13 +13,18 @@ returns c = record { refusal = c .before .sized-refusal .ensures; cells = sym (a
 
 renew-requires : tie.Need-renew-requires
 renew-requires c κs =
-    let a = c .before .before .before .before .before .before .before .before .before .before .before .args in
+    let c4 = c .before .before .before .before in
+    let c8 = c4 .before .before .before .before in
+    let a = c8 .before .before .before .args in
     ready (meshOf (now (a .x)) (now (a .y)) (now (a .z)) (now (a .t0)) (now (a .t1)) (now (a .t2))) (now (a .out)) _ (c .before .before .before .sized-refusal .ensures) (c .before .before .if1 .left)
 
 returns-2 : tie.Need-returns-2
 returns-2 c =
-    let a = c .before .before .before .before .before .before .before .before .before .before .before .before .before .before .args in
-    assembled (meshOf (now (a .x)) (now (a .y)) (now (a .z)) (now (a .t0)) (now (a .t1)) (now (a .t2))) (now (a .out)) _ (c .before .before .before .before .before .before .sized-refusal .ensures) (c .before .before .before .before .before .if1 .left) (a .kind) (c .before .before .renew .ensures)
+    let c4 = c .before .before .before .before in
+    let c8 = c4 .before .before .before .before in
+    let c12 = c8 .before .before .before .before in
+    let a = c12 .before .before .args in
+    assembled (meshOf (now (a .x)) (now (a .y)) (now (a .z)) (now (a .t0)) (now (a .t1)) (now (a .t2))) (now (a .out)) _ (c4 .before .before .sized-refusal .ensures) (c4 .before .if1 .left) (a .kind) (c .before .before .renew .ensures)
 
 pub matrix-under-spec : {M : Type 1} → statement M
 matrix-under-spec =

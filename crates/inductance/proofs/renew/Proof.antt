@@ -7,34 +7,49 @@ use Rattle.coupling.specs.Block.{mutualInductanceBlock}
 use Rattle.scatter.specs.Renewal.{marked}
 use Rattle.inductance.proofs.Within.{entries-within}
 use Rattle.pair_loops.proofs.Ready.{ready-now, indices-marked}
-use Rattle.inductance.proofs.Renewing.{nest-done, cleared-length}
+use Rattle.inductance.proofs.Renewing.{loops-done, cleared-length}
 use Rattle.inductance.proofs.renew.Statement.{statement}
 use Rattle.inductance.proofs.renew.Tie as tie
 
 flag-panels-requires : tie.Need-flag-panels-requires
 flag-panels-requires c κs =
-    let w = c .before .before .before .before .before .before .before .before .before in
+    let c4 = c .before .before .before .before in
+    let c8 = c4 .before .before .before .before in
+    let w = c8 .before in
     let a = w .args in
     (record { t1-long = w .pre .panels-alike .t1-long; t2-long = w .pre .panels-alike .t2-long }, (indices-marked (meshOf (now (a .x)) (now (a .y)) (now (a .z)) (now (a .t0)) (now (a .t1)) (now (a .t2))) (now (a .out)) (now (a .marks)) (w .pre), w .pre .few-panels))
 
 link-marked-requires : tie.Need-link-marked-requires
 link-marked-requires c κs =
-    let w = c .before .before .before .before .before .before .before .before .before .before .before .before .before .pre in
+    let c4 = c .before .before .before .before in
+    let c8 = c4 .before .before .before .before in
+    let c12 = c8 .before .before .before .before in
+    let w = c12 .before .pre in
     let f = c .before .before .before .flag-panels in
     let long : length (f .last .1 .1 .1 .1 .0) ≡ 8192 = f .kept .1 .1 .1 .1 .0 in
     (rw long (w .few-panels), w .few-panels)
 
 clear-named-requires : tie.Need-clear-named-requires
-clear-named-requires c κs = c .before .before .before .before .before .before .before .before .before .before .before .before .before .before .before .before .pre .sized
+clear-named-requires c κs =
+    let c4 = c .before .before .before .before in
+    let c8 = c4 .before .before .before .before in
+    let c12 = c8 .before .before .before .before in
+    let c16 = c12 .before .before .before .before in
+    c16 .pre .sized
 
 add-all-requires : tie.Need-add-all-requires
 add-all-requires c κs =
-    let w = c .before .before .before .before .before .before .before .before .before .before .before .before .before .before .before .before .before .before .before .before .before .before in
+    let c4 = c .before .before .before .before in
+    let c8 = c4 .before .before .before .before in
+    let c12 = c8 .before .before .before .before in
+    let c16 = c12 .before .before .before .before in
+    let c20 = c16 .before .before .before .before in
+    let w = c20 .before .before in
     let a = w .args in
     let m : Mesh = meshOf (now (a .x)) (now (a .y)) (now (a .z)) (now (a .t0)) (now (a .t1)) (now (a .t2)) in
-    let s = c .before .before .before .before .before .clear-named in
-    let f = c .before .before .before .before .before .before .before .before .before .before .before .before .flag-panels in
-    let l = c .before .before .before .before .before .before .before .before .link-marked in
+    let s = c4 .before .clear-named in
+    let f = c12 .flag-panels in
+    let l = c8 .link-marked in
     let flags-fit : length (f .last .1 .1 .1 .1 .0) ≡ 8192 = f .kept .1 .1 .1 .1 .0 in
     let links-fit : length (l .last .1 .1 .0) ≡ 8192 = l .kept .1 .1 .0 in (
       ready-now m (now (a .out)) (s .last .0) (now (a .marks)) (w .pre) (cleared-length (marked (now (a .marks))) (nnode m) (now (a .out)) (w .pre .sized .cells) (s .ensures)),
@@ -43,20 +58,28 @@ add-all-requires c κs =
 
 same-length : tie.Need-same-length
 same-length c =
+    let c4 = c .before .before .before .before in
+    let c8 = c4 .before .before .before .before in
     c .before .before .add-all .kept .1 .1 .1 .1 .1 .1 .1 .1 .1 .1 .0
-    ∙ c .before .before .before .before .before .before .before .before .clear-named .kept .0
+    ∙ c8 .clear-named .kept .0
 
 returns : tie.Need-returns
 returns c =
-    let w = c .before .before .before .before .before .before .before .before .before .before .before .before .before .before .before .before .before .before .before .before .before .before .before .before .before in
+    let c4 = c .before .before .before .before in
+    let c8 = c4 .before .before .before .before in
+    let c12 = c8 .before .before .before .before in
+    let c16 = c12 .before .before .before .before in
+    let c20 = c16 .before .before .before .before in
+    let c24 = c20 .before .before .before .before in
+    let w = c24 .before in
     let a = w .args in
     let m : Mesh = meshOf (now (a .x)) (now (a .y)) (now (a .z)) (now (a .t0)) (now (a .t1)) (now (a .t2)) in
     let f = mutualInductanceBlock (a .kind) in
-    let s = c .before .before .before .before .before .before .before .before .clear-named in
+    let s = c8 .clear-named in
     let t = c .before .before .add-all in
-    nest-done (marked (now (a .marks))) (nnode m) f m (now (a .out)) (s .last .0) (t .last .1 .1 .1 .1 .1 .1 .1 .1 .1 .1 .0) (entries-within f m (w .pre .none-missing)) (s .ensures) (t .ensures)
+    loops-done (marked (now (a .marks))) (nnode m) f m (now (a .out)) (s .last .0) (t .last .1 .1 .1 .1 .1 .1 .1 .1 .1 .1 .0) (entries-within f m (w .pre .none-missing)) (s .ensures) (t .ensures)
 
 pub renew-spec : {M : Type 1} → statement M
 renew-spec =
     tie.close
-    (tie.spec (λ c. refl) flag-panels-requires (λ c. sym (c .before .before .flag-panels .kept .1 .1 .1 .1 .0)) (λ c. refl) link-marked-requires clear-named-requires (λ c. sym (c .before .before .before .before .before .before .before .before .before .before .flag-panels .kept .1 .1 .1 .1 .0)) (λ c. sym (c .before .before .before .before .before .before .before .link-marked .kept .1 .1 .0)) add-all-requires same-length returns)
+    (tie.spec (λ c. refl) flag-panels-requires (λ c. sym (c .before .before .flag-panels .kept .1 .1 .1 .1 .0)) (λ c. refl) link-marked-requires clear-named-requires (λ c. let c4 = c .before .before .before .before in let c8 = c4 .before .before .before .before in sym (c8 .before .before .flag-panels .kept .1 .1 .1 .1 .0)) (λ c. let c4 = c .before .before .before .before in sym (c4 .before .before .before .link-marked .kept .1 .1 .0)) add-all-requires same-length returns)

@@ -17,14 +17,18 @@ returns c = mesh-stopped _ _ _ _ _ (c .before .mesh-refusal .ensures) (c .if1 .t
 
 mul-if2 : tie.Need-mul-if2
 mul-if2 c =
-    let a = c .before .before .before .before .before .before .before .before .args in
+    let c4 = c .before .before .before .before in
+    let c8 = c4 .before .before .before .before in
+    let a = c8 .args in
     let m : Mesh = meshOf (now (a .x)) (now (a .y)) (now (a .z)) (now (a .t0)) (now (a .t1)) (now (a .t2)) in
     omega (arith, few-cells m _ (c .before .mesh-refusal .ensures) (c .if1 .left))
 
 returns-2 : tie.Need-returns-2
 unfolding sizedRefusal first
 returns-2 c =
-    let a = c .before .before .before .before .before .before .before .before .before .args in
+    let c4 = c .before .before .before .before in
+    let c8 = c4 .before .before .before .before in
+    let a = c8 .before .args in
     let m : Mesh = meshOf (now (a .x)) (now (a .y)) (now (a .z)) (now (a .t0)) (now (a .t1)) (now (a .t2)) in
     let p = mesh-passed maxNodes maxPanels m (sizeChecks (nnode m) (a .size)) _ (c .before .before .mesh-refusal .ensures) (c .before .if1 .left) in
     rw (p, ne-eqb _ _ (c .if2 .taken))
@@ -32,7 +36,9 @@ returns-2 c =
 returns-3 : tie.Need-returns-3
 unfolding sizedRefusal first
 returns-3 c =
-    let a = c .before .before .before .before .before .before .before .before .before .args in
+    let c4 = c .before .before .before .before in
+    let c8 = c4 .before .before .before .before in
+    let a = c8 .before .args in
     let m : Mesh = meshOf (now (a .x)) (now (a .y)) (now (a .z)) (now (a .t0)) (now (a .t1)) (now (a .t2)) in
     let p = mesh-passed maxNodes maxPanels m (sizeChecks (nnode m) (a .size)) _ (c .before .before .mesh-refusal .ensures) (c .before .if1 .left) in
     rw (p, eq-eqb _ _ (c .if2 .left))

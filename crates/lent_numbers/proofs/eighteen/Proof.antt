@@ -10,11 +10,12 @@ use Rattle.lent_numbers.proofs.eighteen.Tie as tie
 returns : tie.Need-returns
 unfolding halvesOf
 returns c =
-    let p = c .before .before .before .before .before in
+    let c4 = c .before .before .before .before in
+    let p = c4 .before in
     let b = p .before .before .before in
     let a = b .before .before in
-    let first = next 0 9 (a .nine .result) (p .put .ensures) (none 18 _ refl) (search needs) (omega arith) in
-    all (next 9 9 (b .nine2 .result) (c .before .put2 .ensures) first (search needs) (omega arith)) ∙ rw (a .nine .ensures, b .nine2 .ensures)
+    let first = next 0 9 (a .coordinates .result) (p .put .ensures) (none 18 _ refl) (search needs) (omega arith) in
+    all (next 9 9 (b .coordinates2 .result) (c .before .put2 .ensures) first (search needs) (omega arith)) ∙ rw (a .coordinates .ensures, b .coordinates2 .ensures)
 
 pub eighteen-spec : {M : Type 1} → statement M
 eighteen-spec =

@@ -28,12 +28,15 @@ length-long s = search needs
 returns : tie.Need-returns
 unfolding recordNumbers
 returns c =
-    let p5 = c .before .before .before .before .before in
+    let c4 = c .before .before .before .before in
+    let p5 = c4 .before in
     let p4 = p5 .before .before .before .before in
     let p3 = p4 .before .before .before .before in
     let p2 = p3 .before .before .before .before in
     let p1 = p2 .before .before .before .before in
-    let s = p1 .before .before .before .before .before .before .before .before in
+    let p14 = p1 .before .before .before .before in
+    let p18 = p14 .before .before .before .before in
+    let s = p18 in
     let r = s .args .p in
     let b1 = next 0 9 (r .nodes) (p1 .put .ensures) (none 34 _ refl) (nodes-long s) (omega arith) in
     let b2 = next 9 3 (r .normal) (p2 .put2 .ensures) b1 (normal-long s) (omega arith) in
@@ -45,4 +48,4 @@ returns c =
 pub record-numbers-spec : {M : Type 1} → statement M
 record-numbers-spec =
     tie.close
-    (tie.spec (λ c. sym (nodes-long (c .before .before .before .before .before .before))) (search needs) (λ c κs. omega (arith, nodes-long (c .before .before .before .before .before .before .before))) (λ c. sym (normal-long (c .before .before .before .before .before .before .before .before .before .before))) (search needs) (λ c κs. omega (arith, normal-long (c .before .before .before .before .before .before .before .before .before .before .before))) (λ c. sym (tangent-long (c .before .before .before .before .before .before .before .before .before .before .before .before .before .before))) (search needs) (λ c κs. omega (arith, tangent-long (c .before .before .before .before .before .before .before .before .before .before .before .before .before .before .before))) (λ c. sym (outward-long (c .before .before .before .before .before .before .before .before .before .before .before .before .before .before .before .before .before .before))) (search needs) (λ c κs. omega (arith, outward-long (c .before .before .before .before .before .before .before .before .before .before .before .before .before .before .before .before .before .before .before))) (λ c. sym (length-long (c .before .before .before .before .before .before .before .before .before .before .before .before .before .before .before .before .before .before .before .before .before .before))) (search needs) (λ c κs. omega (arith, length-long (c .before .before .before .before .before .before .before .before .before .before .before .before .before .before .before .before .before .before .before .before .before .before .before))) (search needs) (search needs) (search needs) returns)
+    (tie.spec (λ c. let c4 = c .before .before .before .before in sym (nodes-long (c4 .before .before))) (search needs) (λ c κs. let c4 = c .before .before .before .before in omega (arith, nodes-long (c4 .before .before .before))) (λ c. let c4 = c .before .before .before .before in let c8 = c4 .before .before .before .before in sym (normal-long (c8 .before .before))) (search needs) (λ c κs. let c4 = c .before .before .before .before in let c8 = c4 .before .before .before .before in omega (arith, normal-long (c8 .before .before .before))) (λ c. let c4 = c .before .before .before .before in let c8 = c4 .before .before .before .before in let c12 = c8 .before .before .before .before in sym (tangent-long (c12 .before .before))) (search needs) (λ c κs. let c4 = c .before .before .before .before in let c8 = c4 .before .before .before .before in let c12 = c8 .before .before .before .before in omega (arith, tangent-long (c12 .before .before .before))) (λ c. let c4 = c .before .before .before .before in let c8 = c4 .before .before .before .before in let c12 = c8 .before .before .before .before in let c16 = c12 .before .before .before .before in sym (outward-long (c16 .before .before))) (search needs) (λ c κs. let c4 = c .before .before .before .before in let c8 = c4 .before .before .before .before in let c12 = c8 .before .before .before .before in let c16 = c12 .before .before .before .before in omega (arith, outward-long (c16 .before .before .before))) (λ c. let c4 = c .before .before .before .before in let c8 = c4 .before .before .before .before in let c12 = c8 .before .before .before .before in let c16 = c12 .before .before .before .before in let c20 = c16 .before .before .before .before in sym (length-long (c20 .before .before))) (search needs) (λ c κs. let c4 = c .before .before .before .before in let c8 = c4 .before .before .before .before in let c12 = c8 .before .before .before .before in let c16 = c12 .before .before .before .before in let c20 = c16 .before .before .before .before in omega (arith, length-long (c20 .before .before .before))) (search needs) (search needs) (search needs) returns)

@@ -25,20 +25,26 @@ loop-holds c = (omega arith, refl)
 
 triangle-nodes-requires : tie.Need-triangle-nodes-requires Inv-loop μ-loop
 triangle-nodes-requires c κs =
-    let s = c .before .before .before .before .before .before .before .before in
+    let c4 = c .before .before .before .before in
+    let c8 = c4 .before .before .before .before in
+    let s = c8 in
     let h : c .before .loop .i < length (now (s .args .t0)) = omega arith in
     (s .pre .0, (s .pre .1 .0, (h, s .pre .1 .1 (c .before .loop .i) h)))
 
 add-poor : tie.Need-add-poor Inv-loop μ-loop
 add-poor c =
-    let a = c .before .before .before .before .before .before .before .before .before .before .before .args in
-    let l = c .before .before .before .before .loop in
+    let c4 = c .before .before .before .before in
+    let c8 = c4 .before .before .before .before in
+    let a = c8 .before .before .before .args in
+    let l = c4 .loop in
     omega (arith, count-bound (λ (k : ℕ). isPoor (triangleNodes (meshOf (now (a .x)) (now (a .y)) (now (a .z)) (now (a .t0)) (now (a .t1)) (now (a .t2))) k)) (l .i))
 
 loop-again : tie.Need-loop-again Inv-loop μ-loop
 loop-again c =
-    let a = c .before .before .before .before .before .before .before .before .before .before .before .args in
-    let l = c .before .before .before .before .loop in
+    let c4 = c .before .before .before .before in
+    let c8 = c4 .before .before .before .before in
+    let a = c8 .before .before .before .args in
+    let l = c4 .loop in
     let t : ℕ → Bool = λ k. isPoor (triangleNodes (meshOf (now (a .x)) (now (a .y)) (now (a .z)) (now (a .t0)) (now (a .t1)) (now (a .t2))) k) in
     let e = sym (c .before .is-poor .ensures ∙ ap isPoor (c .before .before .triangle-nodes .ensures)) in
     ⊎-elim
@@ -49,7 +55,9 @@ loop-again c =
 returns : tie.Need-returns Inv-loop μ-loop
 unfolding poorPanels
 returns c =
-    let a = c .before .before .before .before .before .before .before .before .args in
+    let c4 = c .before .before .before .before in
+    let c8 = c4 .before .before .before .before in
+    let a = c8 .args in
     let l = c .before .loop in
     let e : l .i ≡ length (now (a .t0)) = omega arith in
     rw e at (l .inv .1)

@@ -23,7 +23,9 @@ returns-3 c = let b1 = c .before in let b2 = b1 .before in let b3 = b2 .before i
 some-misses-node-requires : tie.Need-some-misses-node-requires
 some-misses-node-requires c κs =
     let b2 = c .before .before in
-    let a = b2 .before .before .before .before .before .before .before .before .before .before .args in
+    let b24 = b2 .before .before .before .before in
+    let b28 = b24 .before .before .before .before in
+    let a = b28 .before .before .args in
     let m : Mesh = meshOf (now (a .x)) (now (a .y)) (now (a .z)) (now (a .t0)) (now (a .t1)) (now (a .t2)) in
     let p = panels-off m .0 (sym (b2 .before .lengths-differ2 .ensures) ∙ b2 .if2 .left) in
     record { t1-long = p .t1-long; t2-long = p .t2-long }
@@ -36,7 +38,9 @@ some-zero-area-requires : tie.Need-some-zero-area-requires
 some-zero-area-requires c κs =
     let b4 = c .before .before .before .before in
     let b6 = b4 .before .before in
-    let a = b6 .before .before .before .before .before .before .before .before .args in
+    let b64 = b6 .before .before .before .before in
+    let b68 = b64 .before .before .before .before in
+    let a = b68 .args in
     let m : Mesh = meshOf (now (a .x)) (now (a .y)) (now (a .z)) (now (a .t0)) (now (a .t1)) (now (a .t2)) in (
       nodes-off m .0 (sym (b6 .before .lengths-differ .ensures) ∙ b6 .if1 .left),
       (

@@ -8,7 +8,7 @@ use borrow.Author.Count.{below-none, below-more}
 use borrow.Author.Needs.{needs}
 use denote.Ref.{now}
 use lib.ListN.{length}
-use Rattle.lists.specs.Counting.{three}
+use Rattle.lists.specs.Counting.{triple}
 use Rattle.lists.proofs.Counting.{some-at, none-below}
 use Rattle.mesh.specs.Mesh.{meshOf, triangleIndices, missesNode}
 use Rattle.mesh.proofs.some_misses_node.Statement.{statement}
@@ -25,21 +25,26 @@ loop-holds c = (omega arith, below-none _)
 
 returns : tie.Need-returns Inv-loop μ-loop
 returns c =
-    let a = c .before .before .before .before .before .before .before .before .args in
-    let l = c .before .before .before .before .loop in
-    let e = c .before .misses-node .ensures ∙ ap (λ (v : List ℕ). missesNode (a .n) (three v)) (c .before .before .triangle-indices .ensures) in
+    let c4 = c .before .before .before .before in
+    let c8 = c4 .before .before .before .before in
+    let a = c8 .args in
+    let l = c4 .loop in
+    let e = c .before .misses-node .ensures ∙ ap (λ (v : List ℕ). missesNode (a .n) (triple v)) (c .before .before .triangle-indices .ensures) in
     sym (some-at (λ (i : ℕ). missesNode (a .n) (triangleIndices (meshOf [] [] [] (now (a .t0)) (now (a .t1)) (now (a .t2))) i)) (length (now (a .t0))) (l .i) (omega arith) (sym e ∙ c .if1 .taken))
 
 loop-again : tie.Need-loop-again Inv-loop μ-loop
 loop-again c =
-    let a = c .before .before .before .before .before .before .before .before .args in
-    let l = c .before .before .before .before .loop in
-    let e = c .before .misses-node .ensures ∙ ap (λ (v : List ℕ). missesNode (a .n) (three v)) (c .before .before .triangle-indices .ensures) in
+    let c4 = c .before .before .before .before in
+    let c8 = c4 .before .before .before .before in
+    let a = c8 .args in
+    let l = c4 .loop in
+    let e = c .before .misses-node .ensures ∙ ap (λ (v : List ℕ). missesNode (a .n) (triple v)) (c .before .before .triangle-indices .ensures) in
     (search needs, below-more _ _ (l .inv .1) (sym e ∙ c .if1 .left))
 
 returns-2 : tie.Need-returns-2 Inv-loop μ-loop
 returns-2 c =
-    let a = c .before .before .before .before .before .args in
+    let c4 = c .before .before .before .before in
+    let a = c4 .before .args in
     let l = c .before .loop in
     let e : l .i ≡ length (now (a .t0)) = omega arith in
     sym (none-below (λ (i : ℕ). missesNode (a .n) (triangleIndices (meshOf [] [] [] (now (a .t0)) (now (a .t1)) (now (a .t2))) i)) (length (now (a .t0))) (rw e at (l .inv .1)))

@@ -14,7 +14,9 @@ returns c = record { number = c .before .mesh-refusal .ensures; count = rw (ne-e
 
 count-poor-requires : tie.Need-count-poor-requires
 count-poor-requires c κs =
-    let a = c .before .before .before .before .before .before .before .before .args in
+    let c4 = c .before .before .before .before in
+    let c8 = c4 .before .before .before .before in
+    let a = c8 .args in
     let k = numbered maxNodes maxPanels (meshOf (now (a .x)) (now (a .y)) (now (a .z)) (now (a .t0)) (now (a .t1)) (now (a .t2))) .is-0 .0 (sym (c .before .mesh-refusal .ensures) ∙ c .if1 .left) in
     (k .nodes-alike, (k .panels-alike, k .none-missing))
 

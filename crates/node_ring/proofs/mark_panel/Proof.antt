@@ -9,7 +9,9 @@ use Rattle.node_ring.proofs.mark_panel.Statement.{statement}
 use Rattle.node_ring.proofs.mark_panel.Tie as tie
 
 returns : tie.Need-returns
-returns c a = rw (sym (c .before .before .before .before .before .holds .ensures) ∙ c .before .before .before .before .if1 .taken) (c .before .before .mark-three .ensures a)
+returns c a =
+    let c4 = c .before .before .before .before in
+    rw (sym (c4 .before .holds .ensures) ∙ c4 .if1 .taken) (c .before .before .mark-three .ensures a)
 
 returns-2 : tie.Need-returns-2
 returns-2 c a = rw (sym (c .before .holds .ensures) ∙ c .if1 .left) (sym (or-false (marked (now (c .before .before .before .args .marks)) a)))

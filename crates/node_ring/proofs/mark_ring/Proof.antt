@@ -32,15 +32,19 @@ loop-holds c =
 
 mark-panel-requires : tie.Need-mark-panel-requires Inv-loop μ-loop
 mark-panel-requires c κs =
-    let w = c .before .before .before .before .before .before .before .before in
+    let c4 = c .before .before .before .before in
+    let c8 = c4 .before .before .before .before in
+    let w = c8 in
     let a = w .args in
     let l = c .before .before .before .loop in
     (panel-below (length (l .marks)) (length (now (a .marks))) (meshOf [] [] [] (now (a .t0)) (now (a .t1)) (now (a .t2))) (l .p) (c .triangle-indices .result) (l .inv .1) (w .pre .1 .0 (l .p) (c .before .before .loop-test .taken)) (c .triangle-indices .ensures), omega (arith, w .pre .1 .1, l .inv .1))
 
 loop-again : tie.Need-loop-again Inv-loop μ-loop
 loop-again c =
-    let a = c .before .before .before .before .before .before .before .before .before .before .before .args in
-    let l = c .before .before .before .before .before .before .loop in
+    let c4 = c .before .before .before .before in
+    let c8 = c4 .before .before .before .before in
+    let a = c8 .before .before .before .args in
+    let l = c4 .before .before .loop in
     let t = c .before .before .before .triangle-indices in
     let q = c .before .before .mark-panel in (
       omega arith,
@@ -53,7 +57,8 @@ same-length c = c .before .loop .inv .1
 
 returns : tie.Need-returns Inv-loop μ-loop
 returns c k =
-    let a = c .before .before .before .before .before .before .args in
+    let c4 = c .before .before .before .before in
+    let a = c4 .before .before .args in
     let l = c .before .loop in
     let m : Mesh = meshOf [] [] [] (now (a .t0)) (now (a .t1)) (now (a .t2)) in
     let e : l .p ≡ length (now (a .t0)) = omega arith in

@@ -13,7 +13,9 @@ loop-less : tie.Need-loop-less Inv-loop μ-loop
 loop-less c = one-less _ (c .before .before .before .before .loop-test .taken)
 
 loop-again : tie.Need-loop-again Inv-loop μ-loop
-loop-again c = still-left _ (c .before .before .before .before .before .loop .inv)
+loop-again c =
+    let c4 = c .before .before .before .before in
+    still-left _ (c4 .before .loop .inv)
 
 pub main-spec : {M : Type 1} → statement M
 main-spec =

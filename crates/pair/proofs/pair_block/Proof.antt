@@ -1,7 +1,7 @@
 -- The coupling of the corners, and densities that are those of the corners because both panels are known.
 use Rattle.coupling.specs.Block.{mutualInductanceBlock}
 use Rattle.pair.specs.Pair as Spec
-use Rattle.pair.proofs.Kept.{kept-densities}
+use Rattle.pair.proofs.Cached.{cached-densities}
 use Rattle.pair.proofs.pair_block.Statement.{statement}
 use Rattle.pair.proofs.pair_block.Tie as tie
 
@@ -15,11 +15,11 @@ returns c =
     let w = b3 .before .before .before .before in
     rw (
       c .block-from-coupling .ensures,
-      b1 .three2 .ensures,
-      b2 .three .ensures,
+      b1 .triangle2 .ensures,
+      b2 .triangle .ensures,
       b3 .pair-coupling .ensures,
-      kept-densities (w .args .s .panel) (w .pre .0 .0),
-      kept-densities (w .args .t) (w .pre .1),
+      cached-densities (w .args .s .panel) (w .pre .0 .0),
+      cached-densities (w .args .t) (w .pre .1),
     )
 
 pub pair-block-spec : {M : Type 1} → statement M

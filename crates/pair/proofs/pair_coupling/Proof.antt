@@ -1,10 +1,10 @@
--- The kept numbers are those of the corners, so the test is isFar; then the shared sums are the far rule, or the kept record's integral is the near rule.
+-- The cached numbers are those of the corners, so the test is isFar; then the shared sums are the far rule, or the kept record's integral is the near rule.
 use mathlib.Core.Path.{_≡_}
 use Rattle.coupling.specs.Coupling.{isFar, geometricCoupling}
 use Rattle.panel_points.specs.Points.{triangle}
 use Rattle.panel_points.proofs.Places.{few}
 use Rattle.pair.specs.Pair as Spec
-use Rattle.pair.proofs.Kept.{kept-area, which-is, source-rows, source-points, source-uniform}
+use Rattle.pair.proofs.Cached.{cached-area, which-is, source-rows, source-points, source-uniform}
 use Rattle.pair_far_rule.proofs.Symmetric.{symmetric}
 use Rattle.pair.proofs.pair_coupling.Statement.{statement}
 use Rattle.pair.proofs.pair_coupling.Tie as tie
@@ -22,7 +22,7 @@ returns c =
     let t = w .args .t in
     let q = w .pre .0 in
     let f : b5 .is-far .result ≡ isFar (triangle (s .panel .corners)) (triangle (t .corners)) =
-    rw (b5 .is-far .ensures, b6 .three2 .ensures, b7 .box-distance-squared .ensures, b8 .max .ensures, b9 .three .ensures)
+    rw (b5 .is-far .ensures, b6 .triangle2 .ensures, b7 .box-distance-squared .ensures, b8 .max .ensures, b9 .triangle .ensures)
     (which-is (s .panel) t (unfold Spec.KnownSource in q .0) (w .pre .1)) in
     rw (
       ← f,
@@ -30,7 +30,7 @@ returns c =
       c .far-coupling .ensures,
       b1 .points-by .ensures,
       b2 .quadrature-count .ensures,
-      kept-area t (w .pre .1),
+      cached-area t (w .pre .1),
       source-rows (w .args .kind) s q,
       source-points (w .args .kind) s q,
     ) (symmetric (w .args .kind) (s .panel .corners) (t .corners))
@@ -45,9 +45,9 @@ returns-2 c =
     let t = w .args .t in
     let q = w .pre .0 in
     let f : b3 .is-far .result ≡ isFar (triangle (s .panel .corners)) (triangle (t .corners)) =
-    rw (b3 .is-far .ensures, b4 .three2 .ensures, b5 .box-distance-squared .ensures, b6 .max .ensures, b7 .three .ensures)
+    rw (b3 .is-far .ensures, b4 .triangle2 .ensures, b5 .box-distance-squared .ensures, b6 .max .ensures, b7 .triangle .ensures)
     (which-is (s .panel) t (unfold Spec.KnownSource in q .0) (w .pre .1)) in
-    rw (← f, b2 .if1 .left, c .triangle-geometric-coupling-exact-fixed .ensures, b7 .three .ensures, source-uniform (w .args .kind) s q)
+    rw (← f, b2 .if1 .left, c .triangle-geometric-coupling-exact-fixed .ensures, b7 .triangle .ensures, source-uniform (w .args .kind) s q)
 
 pub pair-coupling-spec : {M : Type 1} → statement M
 pair-coupling-spec =

@@ -11,7 +11,7 @@ returns c =
     let b5 = b4 .before in let b6 = b5 .before in let b7 = b6 .before in let b8 = b7 .before in
     let b9 = b8 .before in let b10 = b9 .before in
     rw (
-      c .nine2 .ensures,
+      c .coordinates2 .ensures,
       b1 .triangle-basis-current-densities .ensures,
       b2 .highest3 .ensures,
       b3 .highest2 .ensures,
@@ -21,7 +21,7 @@ returns c =
       b7 .lowest .ensures,
       b8 .triangle-max-edge-squared .ensures,
       b9 .area .ensures,
-      b10 .nine .ensures,
+      b10 .coordinates .ensures,
     )
 
 pub panel-numbers-spec : {M : Type 1} → statement M

@@ -7,7 +7,7 @@ returns : tie.Need-returns
 unfolding Spec.sourceNumbers
 returns c =
     let b1 = c .before in let b2 = b1 .before in let b3 = b2 .before in
-    rw (c .new .ensures, b1 .three .ensures, b2 .points-by .ensures, b3 .rows-of .ensures)
+    rw (c .new .ensures, b1 .triangle .ensures, b2 .points-by .ensures, b3 .rows-of .ensures)
 
 pub source-numbers-spec : {M : Type 1} → statement M
 source-numbers-spec =

@@ -11,7 +11,8 @@ use Rattle.pair_far_rule.proofs.far_many.Tie as tie
 
 distances-requires : tie.Need-distances-requires
 distances-requires c κs =
-    let w = c .before .before .before .before .before .before .before in (
+    let c4 = c .before .before .before .before in
+    let w = c4 .before .before .before in (
       (search needs, search needs, search needs),
       ((search needs, search needs, search needs), (w .pre, pairs-fit (w .args .count) (w .pre))),
     )
@@ -21,7 +22,9 @@ far-sums-requires c κs = omega arith
 
 returns : tie.Need-returns
 returns c =
-    let a = c .before .before .before .before .before .before .before .before .before .before .before .args in
+    let c4 = c .before .before .before .before in
+    let c8 = c4 .before .before .before .before in
+    let a = c8 .before .before .before .args in
     let d = c .before .before .before .distances .ensures in
     c .far-sums .ensures
     ∙ far-rows (a .count) (pointsAt (a .t2) (a .t3) (a .t4) (a .w)) (pointsAt (a .t6) (a .t7) (a .t8) (a .pw)) _

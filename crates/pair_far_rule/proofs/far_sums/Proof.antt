@@ -3,11 +3,10 @@ use mathlib.Core.Path.{_≡_, refl}
 use Prim.Native.Nat.{_≤_, _<_, _-_}
 use native.Mathlib.Nat.{le-trans}
 use native.Mathlib.Omega.{arith}
-use mir.Syntax.{w64}
-use borrow.Author.Needs.{fits-under}
 use Rattle.point_distances.proofs.Turns.{pairs-fit, row-fits}
 use Rattle.lists.specs.Sums.{runningSum, sumTo}
 use Rattle.lists.proofs.Sums.{sum-more}
+use Rattle.lists.proofs.Indices.{index-fits}
 use Rattle.pair_far_rule.specs.Far.{forwardBy, heldBy, farBy}
 use Rattle.pair_far_rule.proofs.Points.{held-next}
 use Rattle.pair_far_rule.proofs.far_sums.Statement.{statement}
@@ -51,5 +50,5 @@ returns c =
 pub far-sums-spec : {M : Type 1} → statement M
 far-sums-spec =
     tie.close
-    (tie.spec Inv-loop μ-loop loop-holds (λ c. fits-under w64 _ 4096 (omega arith) tt) (λ c. omega arith) mul-share-row (λ c. fits-under w64 _ 4096 (omega arith) tt) (λ c. omega arith) share-row-requires (λ c. fits-under w64 _ 4096 (omega arith) tt) (λ c. omega arith)
-    loop-again (λ c κs. omega arith) returns)
+    (tie.spec Inv-loop μ-loop loop-holds (λ c. index-fits (omega arith)) (λ c. omega arith) mul-share-row (λ c. index-fits (omega arith)) (λ c. omega arith) share-row-requires
+    (λ c. index-fits (omega arith)) (λ c. omega arith) loop-again (λ c κs. omega arith) returns)

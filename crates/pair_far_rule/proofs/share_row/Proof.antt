@@ -2,11 +2,11 @@
 use mathlib.Core.Path.{_≡_, refl}
 use Prim.Native.Nat.{ℕ, _≤_, _-_, _+_}
 use native.Mathlib.Omega.{arith}
-use mir.Syntax.{w64}
-use borrow.Author.Needs.{needs, fits-under}
+use borrow.Author.Needs.{needs}
 use Rattle.binary64.specs.Binary64.{at, _⊘_}
 use Rattle.lists.specs.Sums.{runningSum, sumTo}
 use Rattle.lists.proofs.Sums.{sum-more}
+use Rattle.lists.proofs.Indices.{index-fits}
 use Rattle.pair_far_rule.specs.Far as Spec
 use Rattle.pair_far_rule.proofs.Points.{shared-more}
 use Rattle.pair_far_rule.proofs.share_row.Statement.{statement}
@@ -39,4 +39,6 @@ returns c =
 pub share-row-spec : {M : Type 1} → statement M
 share-row-spec =
     tie.close
-    (tie.spec Inv-loop μ-loop loop-holds (λ c. fits-under w64 _ 4096 (omega arith) tt) (λ c. omega arith) (λ c. fits-under w64 _ 4096 (omega arith) tt) (λ c. fits-under w64 _ 4096 (omega arith) tt) (λ c. omega arith) (λ c. fits-under w64 _ 4096 (omega arith) tt) (λ c. omega arith) (λ c. fits-under w64 _ 4096 (omega arith) tt) (λ c. fits-under w64 _ 4096 (omega arith) tt) (λ c. omega arith) (λ c. fits-under w64 _ 4096 (omega arith) tt) (λ c. omega arith) (λ c. fits-under w64 _ 4096 (omega arith) tt) (λ c. omega arith) loop-again returns)
+    (tie.spec Inv-loop μ-loop loop-holds (λ c. index-fits (omega arith)) (λ c. omega arith) (λ c. index-fits (omega arith)) (λ c. index-fits (omega arith)) (λ c. omega arith)
+    (λ c. index-fits (omega arith)) (λ c. omega arith) (λ c. index-fits (omega arith)) (λ c. index-fits (omega arith)) (λ c. omega arith) (λ c. index-fits (omega arith))
+    (λ c. omega arith) (λ c. index-fits (omega arith)) (λ c. omega arith) loop-again returns)

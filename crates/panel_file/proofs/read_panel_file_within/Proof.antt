@@ -6,7 +6,7 @@ use denote.Ref.{now}
 use Rattle.mesh.specs.Mesh.{Mesh, meshOf}
 use Rattle.refusal.proofs.Checks.{after-done, after-refused}
 use Rattle.panel_file.specs.PanelFile.{nodeCount, lengthDiffers, lengthsOf, Holds}
-use Rattle.panel_file.specs.Conditions.{ColumnsDue}
+use Rattle.panel_file.specs.Conditions.{MeshColumnsDue}
 use mathlib.Core.Bool.{false}
 use Rattle.panel_file.proofs.Accepted.{ready, whole, with-count}
 use borrow.Author.Needs.{needs}
@@ -16,12 +16,20 @@ use Rattle.panel_file.proofs.read_panel_file_within.Tie as tie
 abbrev lent : tie.Start → Mesh
 lent s = meshOf (now (s .args .x)) (now (s .args .y)) (now (s .args .z)) (now (s .args .t0)) (now (s .args .t1)) (now (s .args .t2))
 
--- a call that goes on: the file is whole and the columns are of its counts
-known : (c : tie.Else1) → (lengthDiffers 0 (now (c .before .before .before .before .before .before .before .before .before .args .bytes)) ≡ false) × ColumnsDue (now (c .before .before .before .before .before .before .before .before .before .args .bytes)) (lengthsOf (lent (c .before .before .before .before .before .before .before .before .before)))
-known c = ready _ _ _ (lengthsOf (lent (c .before .before .before .before .before .before .before .before .before))) (sym (c .before .read-refusal .ensures) ∙ c .if1 .left)
+abbrev entered : tie.Else1 → tie.After-shared-slice-known
+entered c =
+    let c4 = c .before .before .before .before in
+    c4 .before .before .before .before
 
-holds : (c : tie.Else1) (n : ℕ) → n ≡ nodeCount (now (c .before .before .before .before .before .before .before .before .before .args .bytes)) → Holds n (now (c .before .before .before .before .before .before .before .before .before .args .bytes))
-holds c n e = with-count n _ e (whole 0 _ (λ k. c .before .before .before .before .before .before .before .before .shared-slice-known .given k .fits) (known c .0))
+abbrev entry : tie.Else1 → tie.Start
+entry c = entered c .before
+
+-- a call that goes on: the file is whole and the columns are of its counts
+known : (c : tie.Else1) → (lengthDiffers 0 (now (entry c .args .bytes)) ≡ false) × MeshColumnsDue (now (entry c .args .bytes)) (lengthsOf (lent (entry c)))
+known c = ready _ _ _ (lengthsOf (lent (entry c))) (sym (c .before .read-refusal .ensures) ∙ c .if1 .left)
+
+holds : (c : tie.Else1) (n : ℕ) → n ≡ nodeCount (now (entry c .args .bytes)) → Holds n (now (entry c .args .bytes))
+holds c n e = with-count n _ e (whole 0 _ (λ k. entered c .shared-slice-known .given k .fits) (known c .0))
 
 returns : tie.Need-returns
 returns c =
@@ -37,32 +45,64 @@ returns c =
     }
 
 fill-coordinates-requires : tie.Need-fill-coordinates-requires
-fill-coordinates-requires c κs = let e = c .before in (holds e _ (known e .1 .x), omega arith)
+fill-coordinates-requires c κs = let e = c .before in
+    (holds e _ (known e .1 .nodes .first), omega arith)
 
 fill-coordinates-requires-2 : tie.Need-fill-coordinates-requires-2
-fill-coordinates-requires-2 c κs = let e = c .before .before .before .before .before in (holds e _ (known e .1 .y), omega arith)
+fill-coordinates-requires-2 c κs =
+    let c4 = c .before .before .before .before in
+    let e = c4 .before in
+    (holds e _ (known e .1 .nodes .second), omega arith)
 
 fill-coordinates-requires-3 : tie.Need-fill-coordinates-requires-3
-fill-coordinates-requires-3 c κs = let e = c .before .before .before .before .before .before .before .before .before in (holds e _ (known e .1 .z), omega arith)
+fill-coordinates-requires-3 c κs =
+    let c4 = c .before .before .before .before in
+    let c8 = c4 .before .before .before .before in
+    let e = c8 .before in
+    (holds e _ (known e .1 .nodes .third), omega arith)
 
 fill-indices-requires : tie.Need-fill-indices-requires
-fill-indices-requires c κs = let e = c .before .before .before .before .before .before .before .before .before .before .before .before .before in (holds e _ (known e .1 .x), omega arith, known e .1 .t0)
+fill-indices-requires c κs =
+    let c4 = c .before .before .before .before in
+    let c8 = c4 .before .before .before .before in
+    let c12 = c8 .before .before .before .before in
+    let e = c12 .before in
+    (holds e _ (known e .1 .nodes .first), omega arith, known e .1 .panels .first)
 
 fill-indices-requires-2 : tie.Need-fill-indices-requires-2
-fill-indices-requires-2 c κs = let e = c .before .before .before .before .before .before .before .before .before .before .before .before .before .before .before .before .before in (holds e _ (known e .1 .x), omega arith, known e .1 .t1)
+fill-indices-requires-2 c κs =
+    let c4 = c .before .before .before .before in
+    let c8 = c4 .before .before .before .before in
+    let c12 = c8 .before .before .before .before in
+    let c16 = c12 .before .before .before .before in
+    let e = c16 .before in
+    (holds e _ (known e .1 .nodes .first), omega arith, known e .1 .panels .second)
 
 fill-indices-requires-3 : tie.Need-fill-indices-requires-3
-fill-indices-requires-3 c κs = let e = c .before .before .before .before .before .before .before .before .before .before .before .before .before .before .before .before .before .before .before .before .before in (holds e _ (known e .1 .x), omega arith, known e .1 .t2)
+fill-indices-requires-3 c κs =
+    let c4 = c .before .before .before .before in
+    let c8 = c4 .before .before .before .before in
+    let c12 = c8 .before .before .before .before in
+    let c16 = c12 .before .before .before .before in
+    let c20 = c16 .before .before .before .before in
+    let e = c20 .before in
+    (holds e _ (known e .1 .nodes .first), omega arith, known e .1 .panels .third)
 
 returns-2 : tie.Need-returns-2
 returns-2 c =
+    let c4 = c .before .before .before .before in
+    let c8 = c4 .before .before .before .before in
+    let c12 = c8 .before .before .before .before in
+    let c16 = c12 .before .before .before .before in
+    let c20 = c16 .before .before .before .before in
+    let c24 = c20 .before .before .before .before in
     record {
-      number = sym (c .before .before .before .before .before .before .before .before .before .before .before .before .before .before .before .before .before .before .before .before .before .before .before .before .if1 .left) ∙ c .before .before .before .before .before .before .before .before .before .before .before .before .before .before .before .before .before .before .before .before .before .before .before .before .before .read-refusal .ensures;
-      x = c .before .before .before .before .before .before .before .before .before .before .before .before .before .before .before .before .before .before .before .before .before .before .fill-coordinates .ensures ∙ sym (after-done 0 _ _ refl);
-      y = c .before .before .before .before .before .before .before .before .before .before .before .before .before .before .before .before .before .before .fill-coordinates2 .ensures ∙ sym (after-done 0 _ _ refl);
-      z = c .before .before .before .before .before .before .before .before .before .before .before .before .before .before .fill-coordinates3 .ensures ∙ sym (after-done 0 _ _ refl);
-      t0 = c .before .before .before .before .before .before .before .before .before .before .fill-indices .ensures ∙ sym (after-done 0 _ _ refl);
-      t1 = c .before .before .before .before .before .before .fill-indices2 .ensures ∙ sym (after-done 0 _ _ refl);
+      number = sym (c24 .if1 .left) ∙ c24 .before .read-refusal .ensures;
+      x = c20 .before .before .fill-coordinates .ensures ∙ sym (after-done 0 _ _ refl);
+      y = c16 .before .before .fill-coordinates2 .ensures ∙ sym (after-done 0 _ _ refl);
+      z = c12 .before .before .fill-coordinates3 .ensures ∙ sym (after-done 0 _ _ refl);
+      t0 = c8 .before .before .fill-indices .ensures ∙ sym (after-done 0 _ _ refl);
+      t1 = c4 .before .before .fill-indices2 .ensures ∙ sym (after-done 0 _ _ refl);
       t2 = c .before .before .fill-indices3 .ensures ∙ sym (after-done 0 _ _ refl);
     }
 

@@ -3,7 +3,8 @@ use mathlib.Core.Path.{_≡_, sym, _∙_}
 use mathlib.Core.Bool.{_||_}
 use denote.Ref.{now}
 use Rattle.refusal.specs.Checks.{first}
-use Rattle.panel_file.specs.PanelFile.{fileRefusal, columnsDiffer, Lengths, lengths, outputsDiffer}
+use Rattle.lists.specs.Columns.{columnsDiffer}
+use Rattle.panel_file.specs.PanelFile.{fileRefusal, Lengths, lengths, meshColumnsDiffer}
 use Rattle.panel_file.proofs.Accepted.{marked, clean, file-stopped, file-passed}
 use borrow.Author.Needs.{needs}
 use Rattle.panel_file.proofs.read_refusal.Statement.{statement}
@@ -12,12 +13,18 @@ use Rattle.panel_file.proofs.read_refusal.Tie as tie
 abbrev given : tie.Start → Lengths
 given s = lengths (s .args .x) (s .args .y) (s .args .z) (s .args .t0) (s .args .t1) (s .args .t2)
 
-accepted : (c : tie.Else1) → fileRefusal (c .before .before .before .args .nodes) (c .before .before .before .args .panels) 0 (now (c .before .before .before .args .bytes)) ≡ 0
+abbrev entry : tie.Else1 → tie.Start
+entry c = c .before .before .before
+
+accepted : (c : tie.Else1) → fileRefusal (entry c .args .nodes) (entry c .args .panels) 0 (now (entry c .args .bytes)) ≡ 0
 accepted c = sym (c .before .file-refusal .ensures) ∙ c .if1 .left
 
-differ : (c : tie.After-columns-differ2) → (c .before .before .columns-differ .result || c .columns-differ2 .result) ≡ outputsDiffer (now (c .before .before .before .before .before .before .before .args .bytes)) (given (c .before .before .before .before .before .before .before))
+abbrev entry2 : tie.After-columns-differ2 → tie.Start
+entry2 c = entry (c .before .before .before .before)
+
+differ : (c : tie.After-columns-differ2) → (c .before .before .columns-differ .result || c .columns-differ2 .result) ≡ meshColumnsDiffer (now (entry2 c .args .bytes)) (given (entry2 c))
 differ c =
-    let s = (c .before .before .before .before .before .before .before) .args in
+    let s = entry2 c .args in
     let n = c .before .before .columns-differ .ensures ∙ (λ i. columnsDiffer (c .before .before .before .node-count .ensures .0 i) (s .x) (s .y) (s .z)) in
     let p = c .columns-differ2 .ensures ∙ (λ i. columnsDiffer (c .before .panel-count .ensures .0 i) (s .t0) (s .t1) (s .t2)) in
     (λ i. n i || p i)
@@ -33,11 +40,15 @@ panel-count-requires c κs = marked _ (clean _ _ _ _ (accepted (c .before .befor
 
 returns-2 : tie.Need-returns-2
 unfolding first
-returns-2 c = rw (file-passed _ _ _ (given (c .before .before .before .before .before .before .before .before)) (accepted (c .before .before .before .before .before)), ← differ (c .before), c .if2 .taken)
+returns-2 c =
+    let c4 = c .before .before .before .before in
+    rw (file-passed _ _ _ (given (entry2 (c .before))) (accepted (c4 .before)), ← differ (c .before), c .if2 .taken)
 
 returns-3 : tie.Need-returns-3
 unfolding first
-returns-3 c = rw (file-passed _ _ _ (given (c .before .before .before .before .before .before .before .before)) (accepted (c .before .before .before .before .before)), ← differ (c .before), c .if2 .left)
+returns-3 c =
+    let c4 = c .before .before .before .before in
+    rw (file-passed _ _ _ (given (entry2 (c .before))) (accepted (c4 .before)), ← differ (c .before), c .if2 .left)
 
 pub read-refusal-spec : {M : Type 1} → statement M
 read-refusal-spec =

@@ -7,7 +7,7 @@ use Prim.Native.Nat.{ℕ, _≤_, _<_, _-_}
 use native.Mathlib.Omega.{arith}
 use borrow.Author.Count.{below-none, below-more}
 use denote.Ref.{now}
-use Rattle.lists.specs.Counting.{three}
+use Rattle.lists.specs.Counting.{triple}
 use Rattle.mesh.specs.Mesh.{triangleIndices, missesNode, nnode}
 use Rattle.panel_file.specs.PanelFile.{decode}
 use Rattle.panel_file.proofs.Decoded.{misses-node, some-panel, no-panel}
@@ -28,18 +28,20 @@ misses-node-requires c κs = tt
 
 returns : tie.Need-returns Inv-loop μ-loop
 returns c =
-    let s = c .before .before .before .before .before .before in
+    let c4 = c .before .before .before .before in
+    let s = c4 .before .before in
     let b = now (s .args .bytes) in
-    let l = c .before .before .before .before .loop in
-    let e = c .before .misses-node .ensures ∙ ap (λ (v : List ℕ). missesNode (s .args .n) (three v)) (c .before .before .triangle-indices .ensures) in
+    let l = c4 .loop in
+    let e = c .before .misses-node .ensures ∙ ap (λ (v : List ℕ). missesNode (s .args .n) (triple v)) (c .before .before .triangle-indices .ensures) in
     sym (some-panel b (λ (i : ℕ). missesNode (nnode (decode b)) (triangleIndices (decode b) i)) (l .i) (omega (arith, s .pre .1))
     (sym (misses-node b (s .args .n) (s .pre .0 .nodes) (triangleIndices (decode b) (l .i))) ∙ sym e ∙ c .if1 .taken))
 
 loop-again : tie.Need-loop-again Inv-loop μ-loop
 loop-again c =
-    let s = c .before .before .before .before .before .before in
-    let l = c .before .before .before .before .loop in
-    let e = c .before .misses-node .ensures ∙ ap (λ (v : List ℕ). missesNode (s .args .n) (three v)) (c .before .before .triangle-indices .ensures) in
+    let c4 = c .before .before .before .before in
+    let s = c4 .before .before in
+    let l = c4 .loop in
+    let e = c .before .misses-node .ensures ∙ ap (λ (v : List ℕ). missesNode (s .args .n) (triple v)) (c .before .before .triangle-indices .ensures) in
     (search needs, below-more _ _ (l .inv .1) (sym e ∙ c .if1 .left))
 
 returns-2 : tie.Need-returns-2 Inv-loop μ-loop

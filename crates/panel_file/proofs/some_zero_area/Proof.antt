@@ -26,9 +26,10 @@ is-zero-area-requires c κs = tt
 
 returns : tie.Need-returns Inv-loop μ-loop
 returns c =
-    let s = c .before .before .before .before .before .before in
+    let c4 = c .before .before .before .before in
+    let s = c4 .before .before in
     let b = now (s .args .bytes) in
-    let l = c .before .before .before .before .loop in
+    let l = c4 .loop in
     let e = c .before .is-zero-area .ensures ∙ ap isZeroArea (c .before .before .triangle-nodes .ensures) in
     sym (some-panel b (λ (i : ℕ). isZeroArea (triangleNodes (decode b) i)) (l .i) (omega (arith, s .pre .1)) (sym e ∙ c .if1 .taken))
 

@@ -3,11 +3,11 @@ use mathlib.Core.Path.{_≡_, refl}
 use mathlib.Core.List.{List}
 use Prim.Native.Nat.{_≤_, _-_}
 use native.Mathlib.Omega.{arith}
-use mir.Syntax.{w64}
-use borrow.Author.Needs.{needs, fits-under}
+use borrow.Author.Needs.{needs}
 use lib.Ieee.{Float}
 use Rattle.binary64.specs.Binary64.{at}
 use Rattle.tri.proofs.Counts.{count-between}
+use Rattle.lists.proofs.Indices.{index-fits}
 use Rattle.panel_points.specs.Points as Spec
 use Rattle.panel_points.proofs.Seven.{seven-more}
 use Rattle.panel_points.proofs.rows_of.Statement.{statement}
@@ -56,8 +56,8 @@ pub rows-of-spec : {M : Type 1} → statement M
 rows-of-spec =
     tie.close
     (tie.spec Inv-loop μ-loop (λ c κs. tt) loop-holds quadrature-row-requires
-    (λ c. omega arith) (λ c. omega arith) (λ c. fits-under w64 _ 4096 (omega arith) tt) (λ c. omega arith)
-    (λ c. omega arith) (λ c. fits-under w64 _ 4096 (omega arith) tt) (λ c. omega arith)
-    (λ c. omega arith) (λ c. fits-under w64 _ 4096 (omega arith) tt) (λ c. omega arith)
-    (λ c. omega arith) (λ c. fits-under w64 _ 4096 (omega arith) tt) (λ c. omega arith)
-    (λ c. fits-under w64 _ 4096 (omega arith) tt) (λ c. omega arith) loop-again returns)
+    (λ c. omega arith) (λ c. omega arith) (λ c. index-fits (omega arith)) (λ c. omega arith)
+    (λ c. omega arith) (λ c. index-fits (omega arith)) (λ c. omega arith)
+    (λ c. omega arith) (λ c. index-fits (omega arith)) (λ c. omega arith)
+    (λ c. omega arith) (λ c. index-fits (omega arith)) (λ c. omega arith)
+    (λ c. index-fits (omega arith)) (λ c. omega arith) loop-again returns)

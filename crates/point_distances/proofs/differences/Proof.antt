@@ -32,22 +32,26 @@ loop-holds c =
 
 mul-difference-row-2 : tie.Need-mul-difference-row-2 Inv-loop μ-loop
 mul-difference-row-2 c =
-    let w = c .before .before .before .before .before .before in
+    let c4 = c .before .before .before .before in
+    let w = c4 .before .before in
     let l = c .before .before .loop in
     let h : l .i < w .args .n = omega arith in
     omega (arith, row-fits (l .i) (w .args .n) h, pairs-fit (w .args .n) (w .pre .2))
 
 difference-row-requires : tie.Need-difference-row-requires Inv-loop μ-loop
 difference-row-requires c κs =
-    let w = c .before .before .before .before .before .before .before in
+    let c4 = c .before .before .before .before in
+    let w = c4 .before .before .before in
     let l = c .before .before .before .loop in
     let h : l .i < w .args .n = omega arith in
     (w .pre .1, omega (arith, row-fits (l .i) (w .args .n) h, w .pre .3, l .inv .1))
 
 loop-again : tie.Need-loop-again Inv-loop μ-loop
 loop-again c =
-    let a = c .before .before .before .before .before .before .before .before .before .before .args in
-    let l = c .before .before .before .before .before .before .loop in
+    let c4 = c .before .before .before .before in
+    let c8 = c4 .before .before .before .before in
+    let a = c8 .before .before .args in
+    let l = c4 .before .before .loop in
     let r = c .before .before .difference-row in
     let h : l .i < a .n = omega arith in
     let row : ℕ → Float = λ (j : ℕ). at (now (a .a)) (l .i) ⊖ at (now (a .x)) j in
@@ -62,7 +66,8 @@ loop-again c =
 
 returns : tie.Need-returns Inv-loop μ-loop
 returns c =
-    let a = c .before .before .before .before .before .args in
+    let c4 = c .before .before .before .before in
+    let a = c4 .before .args in
     let l = c .before .loop in
     let z : l .i ≡ a .n = omega arith in
     l .inv .2 ∙ ap (λ (k : ℕ). run (now (a .out)) 0 (a .n * a .n) (difference (now (a .a)) (now (a .x)) (a .n)) (k * a .n)) z

@@ -11,30 +11,46 @@ use Rattle.point_distances.proofs.distances.Tie as tie
 
 differences-requires : tie.Need-differences-requires
 differences-requires c κs =
-    let w = c .before .before .before .before .before .before .before .before in
+    let c4 = c .before .before .before .before in
+    let c8 = c4 .before .before .before .before in
+    let w = c8 in
     (w .pre .0 .0, w .pre .1 .0 .0, w .pre .1 .1 .0, pairs-fit (w .args .n) (w .pre .1 .1 .0))
 
 differences-requires-2 : tie.Need-differences-requires-2
 differences-requires-2 c κs =
-    let w = c .before .before .before .before .before .before .before .before .before .before .before in
+    let c4 = c .before .before .before .before in
+    let c8 = c4 .before .before .before .before in
+    let w = c8 .before .before .before in
     (w .pre .0 .1, w .pre .1 .0 .1, w .pre .1 .1 .0, pairs-fit (w .args .n) (w .pre .1 .1 .0))
 
 differences-requires-3 : tie.Need-differences-requires-3
 differences-requires-3 c κs =
-    let w = c .before .before .before .before .before .before .before .before .before .before .before .before .before .before in
+    let c4 = c .before .before .before .before in
+    let c8 = c4 .before .before .before .before in
+    let c12 = c8 .before .before .before .before in
+    let w = c12 .before .before in
     (w .pre .0 .2, w .pre .1 .0 .2, w .pre .1 .1 .0, pairs-fit (w .args .n) (w .pre .1 .1 .0))
 
 mul-norms : tie.Need-mul-norms
 mul-norms c =
-    let w = c .before .before .before .before .before .before .before .before .before .before .before .before .before .before .before .before .before .before .before in
+    let c4 = c .before .before .before .before in
+    let c8 = c4 .before .before .before .before in
+    let c12 = c8 .before .before .before .before in
+    let c16 = c12 .before .before .before .before in
+    let w = c16 .before .before .before in
     omega (arith, pairs-fit (w .args .n) (w .pre .1 .1 .0))
 
 norms-requires : tie.Need-norms-requires
 norms-requires c κs =
-    let w = c .before .before .before .before .before .before .before .before .before .before .before .before .before .before .before .before .before .before .before .before in
-    let x = c .before .before .before .before .before .before .before .before .before .before .before .differences in
-    let y = c .before .before .before .before .before .before .before .before .differences2 in
-    let z = c .before .before .before .before .before .differences3 in
+    let c4 = c .before .before .before .before in
+    let c8 = c4 .before .before .before .before in
+    let c12 = c8 .before .before .before .before in
+    let c16 = c12 .before .before .before .before in
+    let c20 = c16 .before .before .before .before in
+    let w = c20 in
+    let x = c8 .before .before .before .differences in
+    let y = c8 .differences2 in
+    let z = c4 .before .differences3 in
     let f = pairs-fit (w .args .n) (w .pre .1 .1 .0) in
     let long-x : length (x .last .1 .1 .1 .0) ≡ 49 = x .kept .1 .1 .1 .0 in
     let long-y : length (y .last .1 .1 .1 .0) ≡ 49 = y .kept .1 .1 .1 .0 in
@@ -43,10 +59,15 @@ norms-requires c κs =
 
 returns : tie.Need-returns
 returns c =
-    let a = c .before .before .before .before .before .before .before .before .before .before .before .before .before .before .before .before .before .before .before .before .before .before .before .args in
-    let x = c .before .before .before .before .before .before .before .before .before .before .before .before .before .before .differences in
-    let y = c .before .before .before .before .before .before .before .before .before .before .before .differences2 in
-    let z = c .before .before .before .before .before .before .before .before .differences3 in
+    let c4 = c .before .before .before .before in
+    let c8 = c4 .before .before .before .before in
+    let c12 = c8 .before .before .before .before in
+    let c16 = c12 .before .before .before .before in
+    let c20 = c16 .before .before .before .before in
+    let a = c20 .before .before .before .args in
+    let x = c12 .before .before .differences in
+    let y = c8 .before .before .before .differences2 in
+    let z = c8 .differences3 in
     let p = a .n * a .n in
     c .before .before .norms .ensures
     ∙ front-same (now (a .out)) p _ (distance (now (a .a)) (now (a .b)) (now (a .c)) (now (a .x)) (now (a .y)) (now (a .z)) (a .n))
@@ -60,5 +81,6 @@ pub distances-spec : {M : Type 1} → statement M
 distances-spec =
     tie.close
     (tie.spec (λ c. refl) differences-requires (λ c. refl) differences-requires-2 (λ c. refl) differences-requires-3
-    (λ c. sym (c .before .before .before .before .before .before .before .before .differences .kept .1 .1 .1 .0)) (λ c. sym (c .before .before .before .before .before .before .differences2 .kept .1 .1 .1 .0)) (λ c. sym (c .before .before .before .before .differences3 .kept .1 .1 .1 .0))
+    (λ c. let c4 = c .before .before .before .before in let c8 = c4 .before .before .before .before in sym (c8 .differences .kept .1 .1 .1 .0))
+    (λ c. let c4 = c .before .before .before .before in sym (c4 .before .before .differences2 .kept .1 .1 .1 .0)) (λ c. sym (c .before .before .before .before .differences3 .kept .1 .1 .1 .0))
     mul-norms norms-requires (λ c. c .before .before .norms .kept .1 .1 .1 .1 .0) returns)

@@ -2,10 +2,9 @@
 use mathlib.Core.Path.{refl}
 use Prim.Native.Nat.{ℕ, _-_}
 use native.Mathlib.Omega.{arith}
-use mir.Syntax.{w64}
-use borrow.Author.Needs.{fits-under}
 use Rattle.binary64.specs.Binary64.{at, two, _⊖_, _⊗_}
-use Rattle.elementary_lanes.proofs.Each.{Filled, filled-next}
+use Rattle.lists.proofs.Indices.{index-fits}
+use Rattle.lists.proofs.Filled.{Filled, filled-start, filled-next, filled-all}
 use Rattle.potential_lanes.proofs.less_doubled.Statement.{statement}
 use Rattle.potential_lanes.proofs.less_doubled.Tie as tie
 
@@ -15,18 +14,12 @@ Inv-loop value d angle out₀ i₀ out i = Filled 7 (λ (j : ℕ). at value j �
 abbrev μ-loop : tie.MeasureT-loop
 μ-loop value d angle out₀ i₀ out i = 7 - i
 
-loop-holds : tie.Need-loop-holds Inv-loop μ-loop
-loop-holds c = (omega arith, omega arith, λ i l. absurd (omega arith))
-
 loop-again : tie.Need-loop-again Inv-loop μ-loop
-loop-again c =
-    let l = c .before .loop in
-    filled-next 7 _ (l .out) (l .i) _ (omega arith) refl (l .inv)
-
-returns : tie.Need-returns Inv-loop μ-loop
-returns c i m = c .before .loop .inv .2 i (omega arith)
+loop-again c = filled-next (omega arith) refl (c .before .loop .inv)
 
 pub less-doubled-spec : {M : Type 1} → statement M
 less-doubled-spec =
     tie.close
-    (tie.spec Inv-loop μ-loop loop-holds (λ c. fits-under w64 _ 4096 (omega arith) tt) (λ c. omega arith) (λ c. fits-under w64 _ 4096 (omega arith) tt) (λ c. omega arith) (λ c. fits-under w64 _ 4096 (omega arith) tt) (λ c. omega arith) (λ c. fits-under w64 _ 4096 (omega arith) tt) (λ c. omega arith) (λ c. fits-under w64 _ 4096 (omega arith) tt) (λ c. omega arith) loop-again returns)
+    (tie.spec Inv-loop μ-loop (λ c. filled-start (omega arith)) (λ c. index-fits (omega arith)) (λ c. omega arith) (λ c. index-fits (omega arith)) (λ c. omega arith)
+    (λ c. index-fits (omega arith)) (λ c. omega arith) (λ c. index-fits (omega arith)) (λ c. omega arith) (λ c. index-fits (omega arith)) (λ c. omega arith) loop-again
+    (λ c. filled-all (omega arith) (c .before .loop .inv)))

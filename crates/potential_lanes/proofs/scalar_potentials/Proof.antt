@@ -1,9 +1,9 @@
 -- At each point the three edges and the solid angle, by their contracts, the last call first.
 use mathlib.Core.Path.{_≡_, refl}
-use mathlib.Core.List.{[], _∷_}
-use Prim.Native.Nat.{ℕ, zero, suc, _<_}
+use Prim.Native.Nat.{ℕ}
 use native.Mathlib.Omega.{arith}
-use lib.Ieee.{Float}
+use lib.ListN.{getD-replicate}
+use lib.Ieee.{Float, nan}
 use Rattle.binary64.specs.Binary64.{at, plusZero}
 use Rattle.math.specs.Math.{Vec}
 use Rattle.potential.specs.declared.UniformTriangle.{UniformTriangle}
@@ -16,25 +16,17 @@ edge-of : (p : UniformTriangle) (edge : ℕ) (obs : Vec) (d value : Float) → a
 unfolding addEdgeOf addPart addEdge edgeIntegral edgeIntegralFrom
 edge-of p edge obs d value = refl
 
-zeros : (i : ℕ) → i < 7 → at (plusZero ∷ plusZero ∷ plusZero ∷ plusZero ∷ plusZero ∷ plusZero ∷ plusZero ∷ []) i ≡ plusZero
-zeros zero h = refl
-zeros (suc zero) h = refl
-zeros (suc (suc zero)) h = refl
-zeros (suc (suc (suc zero))) h = refl
-zeros (suc (suc (suc (suc zero)))) h = refl
-zeros (suc (suc (suc (suc (suc zero))))) h = refl
-zeros (suc (suc (suc (suc (suc (suc zero)))))) h = refl
-zeros (suc (suc (suc (suc (suc (suc (suc i))))))) h = absurd (omega arith)
-
 returns : tie.Need-returns
 unfolding scalarPotential distanceFromPlane
 returns c i m =
-    let b1 = c .before in let b2 = b1 .before in let b3 = b2 .before in let b4 = b3 .before in let b5 = b4 .before in let b6 = b5 .before in let b7 = b6 .before in let b8 = b7 .before in let b9 = b8 .before in let b10 = b9 .before in let b11 = b10 .before in let b12 = b11 .before in let b13 = b12 .before in let b14 = b13 .before in let a = b14 .before .before .before .before .before .before .args in
+    let b1 = c .before in let b2 = b1 .before in let b3 = b2 .before in let b4 = b3 .before in let b5 = b4 .before in let b6 = b5 .before in let b7 = b6 .before in
+    let b8 = b7 .before in let b9 = b8 .before in let b10 = b9 .before in let b11 = b10 .before in let b12 = b11 .before in let b13 = b12 .before in let b14 = b13 .before in
+    let a = b14 .before .before .before .before .before .before .args in
     let p = a .p in
     let o = point (a .x) (a .y) (a .z) i in
     let plane = b13 .distances-from-plane .ensures i m in
     let d = at (b13 .distances-from-plane .result) i in
-    let first : at (b9 .add-edge .result) i ≡ addEdge p 0 o d plusZero = rw (b9 .add-edge .ensures i m, b12 .vector2 .ensures, b11 .vector3 .ensures, b10 .vector4 .ensures, zeros i m) (edge-of p 0 o d plusZero) in
+    let first : at (b9 .add-edge .result) i ≡ addEdge p 0 o d plusZero = rw (b9 .add-edge .ensures i m, b12 .vector2 .ensures, b11 .vector3 .ensures, b10 .vector4 .ensures, getD-replicate 7 i plusZero nan m) (edge-of p 0 o d plusZero) in
     let v = addEdge p 0 o d plusZero in
     let second : at (b5 .add-edge2 .result) i ≡ addEdge p 1 o d v = rw (b5 .add-edge2 .ensures i m, b8 .vector5 .ensures, b7 .vector6 .ensures, b6 .vector7 .ensures, first) (edge-of p 1 o d v) in
     let w = addEdge p 1 o d v in
@@ -44,4 +36,6 @@ returns c i m =
 pub scalar-potentials-spec : {M : Type 1} → statement M
 scalar-potentials-spec =
     tie.close
-    (tie.spec (λ c κs. omega arith) (λ c κs. tt) (λ c κs. omega arith) (λ c κs. omega arith) (λ c κs. omega arith) (λ c. omega arith) (λ c κs. tt) (λ c κs. omega arith) (λ c κs. omega arith) (λ c κs. omega arith) (λ c. omega arith) (λ c κs. tt) (λ c κs. omega arith) (λ c κs. omega arith) (λ c κs. omega arith) (λ c. omega arith) (λ c κs. tt) (λ c κs. tt) returns)
+    (tie.spec (λ c κs. omega arith) (λ c κs. tt) (λ c κs. omega arith) (λ c κs. omega arith) (λ c κs. omega arith) (λ c. omega arith) (λ c κs. tt) (λ c κs. omega arith)
+    (λ c κs. omega arith) (λ c κs. omega arith) (λ c. omega arith) (λ c κs. tt) (λ c κs. omega arith) (λ c κs. omega arith) (λ c κs. omega arith) (λ c. omega arith) (λ c κs. tt)
+    (λ c κs. tt) returns)

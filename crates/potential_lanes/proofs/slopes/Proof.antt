@@ -2,10 +2,10 @@
 use mathlib.Core.Path.{_≡_, refl}
 use Prim.Native.Nat.{ℕ, _+_, _≤_, _<_, _-_}
 use native.Mathlib.Omega.{arith}
-use mir.Syntax.{w64}
-use borrow.Author.Needs.{needs, fits-under}
+use borrow.Author.Needs.{needs}
 use lib.ListN.{length}
 use Rattle.binary64.specs.Binary64.{at, _⊕_, _⊘_}
+use Rattle.lists.proofs.Indices.{index-fits}
 use Rattle.potential_lanes.proofs.Ends.{two-turn}
 use Rattle.potential_lanes.proofs.slopes.Statement.{statement}
 use Rattle.potential_lanes.proofs.slopes.Tie as tie
@@ -30,4 +30,6 @@ returns c i m = c .before .loop .inv .2 i (omega arith)
 pub slopes-spec : {M : Type 1} → statement M
 slopes-spec =
     tie.close
-    (tie.spec Inv-loop μ-loop loop-holds (λ c. fits-under w64 _ 4096 (omega arith) tt) (λ c. omega arith) (λ c. fits-under w64 _ 4096 (omega arith) tt) (λ c. omega arith) (λ c. fits-under w64 _ 4096 (omega arith) tt) (λ c. omega arith) (λ c. fits-under w64 _ 4096 (omega arith) tt) (λ c. omega arith) (λ c. fits-under w64 _ 4096 (omega arith) tt) (λ c. omega arith) (λ c. fits-under w64 _ 4096 (omega arith) tt) (λ c. fits-under w64 _ 4096 (omega arith) tt) (λ c. omega arith) (λ c. fits-under w64 _ 4096 (omega arith) tt) (λ c. omega arith) loop-again returns)
+    (tie.spec Inv-loop μ-loop loop-holds (λ c. index-fits (omega arith)) (λ c. omega arith) (λ c. index-fits (omega arith)) (λ c. omega arith) (λ c. index-fits (omega arith))
+    (λ c. omega arith) (λ c. index-fits (omega arith)) (λ c. omega arith) (λ c. index-fits (omega arith)) (λ c. omega arith) (λ c. index-fits (omega arith))
+    (λ c. index-fits (omega arith)) (λ c. omega arith) (λ c. index-fits (omega arith)) (λ c. omega arith) loop-again returns)

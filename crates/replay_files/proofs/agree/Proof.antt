@@ -1,5 +1,5 @@
--- One case a kind.
-use borrow.Author.Tests.{eq-eqb, ne-eqb}
+-- At a kind's own number the definition is its comparison; at any other, false.
+use borrow.Author.Tests.{ne-eqb}
 use borrow.Author.Needs.{needs}
 use Rattle.replay_files.specs.Files.{filesAgree}
 use Rattle.replay_files.proofs.agree.Statement.{statement}
@@ -7,11 +7,11 @@ use Rattle.replay_files.proofs.agree.Tie as tie
 
 returns : tie.Need-returns
 unfolding filesAgree
-returns c = rw (eq-eqb _ _ (c .before .if1 .taken)) (c .read-file .ensures)
+returns c = rw (c .before .if1 .taken) (c .read-file .ensures)
 
 returns-2 : tie.Need-returns-2
 unfolding filesAgree
-returns-2 c = rw (ne-eqb _ _ (c .before .before .if1 .left), eq-eqb _ _ (c .before .if2 .taken)) (c .density-program .ensures)
+returns-2 c = rw (c .before .if2 .taken) (c .density-program .ensures)
 
 returns-3 : tie.Need-returns-3
 unfolding filesAgree

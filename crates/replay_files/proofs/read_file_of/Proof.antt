@@ -10,7 +10,14 @@ read-panels-into-requires c κs = search (needs, at-most)
 
 returns : tie.Need-returns
 unfolding readFileOf
-returns c = rw (← c .before .before .before .before .before .before .before .before .before .length-at .ensures .0, ← c .before .before .before .before .before .before .before .before .length-at2 .ensures .0, ← c .before .before .before .before .before .before .before .length-at3 .ensures .0) (c .before .before .before .read-panels-into .ensures)
+returns c =
+    let r = c .before .before .before in
+    let l = r .before .before .before .before in
+    rw (← l .before .before .length-at .ensures .0, ← l .before .length-at2 .ensures .0, ← l .length-at3 .ensures .0) (r .read-panels-into .ensures)
 
 pub read-file-of-spec : {M : Type 1} → statement M
-read-file-of-spec = tie.close (tie.spec (search needs) (search needs) (search needs) (search needs) (search needs) (search needs) (search needs) (search needs) (search needs) (search needs) (search needs) (search needs) (search needs) (search needs) read-panels-into-requires returns)
+read-file-of-spec =
+    tie.close
+    (tie.spec
+    (search needs) (search needs) (search needs) (search needs) (search needs) (search needs) (search needs) (search needs) (search needs) (search needs) (search needs)
+    (search needs) (search needs) (search needs) read-panels-into-requires returns)

@@ -7,12 +7,15 @@ use Rattle.scatter.proofs.add_named.Tie as tie
 
 returns : tie.Need-returns
 returns c =
-    let a = c .before .before .before .before .before .before .before .before .before .args in
-    named-added (now (a .marks)) (a .n) (now (a .out)) (a .row) (a .col) (a .v) (c .before .before .before .before .if1 .taken) (c .before .before .add-at .ensures)
+    let c4 = c .before .before .before .before in
+    let c8 = c4 .before .before .before .before in
+    let a = c8 .before .args in
+    named-added (now (a .marks)) (a .n) (now (a .out)) (a .row) (a .col) (a .v) (c4 .if1 .taken) (c .before .before .add-at .ensures)
 
 returns-2 : tie.Need-returns-2
 returns-2 c =
-    let a = c .before .before .before .before .before .args in
+    let c4 = c .before .before .before .before in
+    let a = c4 .before .args in
     other-left (now (a .marks)) (a .n) (now (a .out)) (a .row) (a .col) (a .v) (c .if1 .left)
 
 pub add-named-spec : {M : Type 1} → statement M

@@ -24,26 +24,32 @@ link-marked-requires c κs = let w = c .before .before .before .pre in (w .enoug
 
 loop-holds : tie.Need-loop-holds Inv-loop μ-loop
 loop-holds c =
-    let a = c .before .before .before .before .before .args in
+    let c4 = c .before .before .before .before in
+    let a = c4 .before .args in
     let g = clearedAt (marked (now (a .marks))) (a .n) (now (a .out)) in
     (omega arith, refl, fill-start (now (a .out)) (a .n * a .n) g ∙ ap (filled (now (a .out)) (a .n * a .n) g) (sym (zero-mul (a .n))))
 
 clear-row-requires : tie.Need-clear-row-requires Inv-loop μ-loop
 clear-row-requires c κs =
-    let w = c .before .before .before .before .before .before .before .before .before .pre in
+    let c4 = c .before .before .before .before in
+    let c8 = c4 .before .before .before .before in
+    let w = c8 .before .pre in
     let l = c .before .before .before .loop in
-    let long : length (c .before .before .before .before .before .link-marked .last .1 .1 .0) ≡ 4096 = search needs in
-    (record { small = w .small; cells = l .inv .1 ∙ w .cells; enough = w .enough }, (c .before .before .loop-test .taken, rw long (w .small), c .before .before .before .before .before .link-marked .ensures))
+    let long : length (c4 .before .link-marked .last .1 .1 .0) ≡ 4096 = search needs in
+    (record { small = w .small; cells = l .inv .1 ∙ w .cells; enough = w .enough }, (c .before .before .loop-test .taken, rw long (w .small), c4 .before .link-marked .ensures))
 
 loop-less : tie.Need-loop-less Inv-loop μ-loop
 loop-less c = search needs
 
 loop-again : tie.Need-loop-again Inv-loop μ-loop
 loop-again c =
-    let w = c .before .before .before .before .before .before .before .before .before .before .before .before in
+    let c4 = c .before .before .before .before in
+    let c8 = c4 .before .before .before .before in
+    let c12 = c8 .before .before .before .before in
+    let w = c12 in
     let a = w .args in
-    let l = c .before .before .before .before .before .before .loop in
-    let h = c .before .before .before .before .before .loop-test .taken in
+    let l = c4 .before .before .loop in
+    let h = c4 .before .loop-test .taken in
     let e = clear-turn (marked (now (a .marks))) (a .n) (now (a .out)) (w .pre .cells) (l .row) (l .out) h (l .inv .2) (c .before .before .clear-row .ensures) in
     (omega (arith, h), column-long (now (a .out)) _ (a .n * a .n) (clearedAt (marked (now (a .marks))) (a .n) (now (a .out))) ((l .row + 1) * a .n) (w .pre .cells) (rows-fit (l .row + 1) (a .n) (omega (arith, h))) e, e)
 
@@ -52,7 +58,8 @@ same-length c = c .before .loop .inv .1
 
 returns : tie.Need-returns Inv-loop μ-loop
 returns c =
-    let w = c .before .before .before .before .before .before .before in
+    let c4 = c .before .before .before .before in
+    let w = c4 .before .before .before in
     let a = w .args in
     let l = c .before .loop in
     clear-end (marked (now (a .marks))) (a .n) (now (a .out)) (w .pre .cells) (l .row) (l .out) (omega (arith, c .loop-test .left, l .inv .0)) (l .inv .2)

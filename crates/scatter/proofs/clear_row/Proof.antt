@@ -34,28 +34,37 @@ loop-holds c =
     (run-start (now (a .out)) (a .row * a .n) (a .n) (clearedIn r (a .n) (now (a .out)) (a .row))) (c .next-named .ensures)
 
 add-out : tie.Need-add-out Inv-loop μ-loop
-add-out c = let w = c .before .before .before .before .before .before .pre in omega (arith, in-square (w .0 .small) (w .1 .0) (c .loop-test .taken))
+add-out c =
+    let c4 = c .before .before .before .before in
+    let w = c4 .before .before .pre in omega (arith, in-square (w .0 .small) (w .1 .0) (c .loop-test .taken))
 
 mul-out : tie.Need-mul-out Inv-loop μ-loop
-mul-out c = let w = c .before .before .before .before .before .before .pre in omega (arith, in-square (w .0 .small) (w .1 .0) (c .loop-test .taken))
+mul-out c =
+    let c4 = c .before .before .before .before in
+    let w = c4 .before .before .pre in omega (arith, in-square (w .0 .small) (w .1 .0) (c .loop-test .taken))
 
 slice-write-out : tie.Need-slice-write-out Inv-loop μ-loop
 slice-write-out c =
-    let w = c .before .before .before .before .before .before .pre in
+    let c4 = c .before .before .before .before in
+    let w = c4 .before .before .pre in
     omega (arith, in-square (w .0 .small) (w .1 .0) (c .loop-test .taken) .0, c .before .loop .inv .2, w .0 .cells)
 
 next-named-requires-2 : tie.Need-next-named-requires-2 Inv-loop μ-loop
-next-named-requires-2 c κs = let w = c .before .before .before .before .before .before .pre in ((w .0 .enough, w .1 .1), (λ l. w .1 .0, w .1 .2))
+next-named-requires-2 c κs =
+    let c4 = c .before .before .before .before in
+    let w = c4 .before .before .pre in ((w .0 .enough, w .1 .1), (λ l. w .1 .0, w .1 .2))
 
 loop-less : tie.Need-loop-less Inv-loop μ-loop
 loop-less c =
-    let a = c .before .before .before .before .before .before .before .args in
+    let c4 = c .before .before .before .before in
+    let a = c4 .before .before .before .args in
     let l = c .before .before .loop in
     omega (arith, c .before .loop-test .taken, c .next-named2 .ensures, next-bounds (named (marked (now (a .marks))) (a .row)) (l .col + 1) (a .n - (l .col + 1)) .0)
 
 loop-again : tie.Need-loop-again Inv-loop μ-loop
 loop-again c =
-    let w = c .before .before .before .before .before .before .before in
+    let c4 = c .before .before .before .before in
+    let w = c4 .before .before .before in
     let a = w .args in
     let l = c .before .before .loop in
     let h = c .before .loop-test .taken in
@@ -68,7 +77,8 @@ same-length c = c .before .loop .inv .2
 
 returns : tie.Need-returns Inv-loop μ-loop
 returns c =
-    let w = c .before .before .before .before .before .before in
+    let c4 = c .before .before .before .before in
+    let w = c4 .before .before in
     let a = w .args in
     let l = c .before .loop in
     let z : l .col ≡ a .n = omega (arith, c .loop-test .left, l .inv .0) in

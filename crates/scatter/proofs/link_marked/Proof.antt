@@ -5,7 +5,7 @@ use native.Mathlib.Omega.{arith}
 use denote.Ref.{now}
 use lib.ListN.{length, length-set}
 use Rattle.scatter.specs.Renewal.{marked}
-use Rattle.scatter.specs.Links.{nextFrom, Linked}
+use Rattle.scatter.specs.Links.{nextFrom, LinksNext}
 use Rattle.scatter.proofs.Links.{past-end, link-down}
 use borrow.Author.Needs.{needs}
 use Rattle.scatter.proofs.link_marked.Statement.{statement}
@@ -13,7 +13,7 @@ use Rattle.scatter.proofs.link_marked.Tie as tie
 
 abbrev Inv-loop : tie.InvT-loop
 Inv-loop marks n links₀ first₀ k₀ links first k =
-    (k ≤ n) × (length links ≡ length links₀) × (first ≡ nextFrom (marked marks) k (n - k)) × Linked k (marked marks) n links
+    (k ≤ n) × (length links ≡ length links₀) × (first ≡ nextFrom (marked marks) k (n - k)) × LinksNext k (marked marks) n links
 
 abbrev μ-loop : tie.MeasureT-loop
 μ-loop marks n links₀ first₀ k₀ links first k = k
@@ -26,7 +26,8 @@ loop-less c = search needs
 
 loop-again : tie.Need-loop-again Inv-loop μ-loop
 loop-again c =
-    let a = c .before .before .before .before .before .before .args in
+    let c4 = c .before .before .before .before in
+    let a = c4 .before .before .args in
     let l = c .before .before .before .loop in
     let h = c .before .before .loop-test .taken in
     let w = link-down (marked (now (a .marks))) (a .n) (l .k) (l .links) (l .first) (c .link .result) h (l .inv .0) (omega (arith, h, l .inv .0, l .inv .1)) (l .inv .2) (c .link .ensures) (l .inv .3) in

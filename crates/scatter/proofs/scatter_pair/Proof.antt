@@ -1,7 +1,7 @@
 -- By cases on whether the pair is one panel with itself, as the definition is.
 use borrow.Author.Tests.{not-true, not-false}
 use denote.Ref.{now}
-use Rattle.lists.specs.Counting.{three}
+use Rattle.lists.specs.Counting.{triple}
 use Rattle.scatter.specs.Entries.{blockEntries}
 use Rattle.scatter.specs.Renewal.{marked}
 use Rattle.scatter.proofs.Steps.{both-added, one-added}
@@ -11,15 +11,18 @@ use Rattle.scatter.proofs.scatter_pair.Tie as tie
 
 returns : tie.Need-returns
 returns c =
-    let a = c .before .before .before .before .before .before .before .before .before .before .before .args in
-    rw (not-true (a .same) (c .before .before .before .before .if1 .taken))
-    (both-added (marked (now (a .marks))) (a .n) (now (a .out)) (blockEntries (three (a .s)) (three (a .t)) (a .b) 0) (c .before .before .before .before .before .before .before .scatter-triangle-block .ensures) (c .before .before .scatter-triangle-block2 .ensures))
+    let c4 = c .before .before .before .before in
+    let c8 = c4 .before .before .before .before in
+    let a = c8 .before .before .before .args in
+    rw (not-true (a .same) (c4 .if1 .taken))
+    (both-added (marked (now (a .marks))) (a .n) (now (a .out)) (blockEntries (triple (a .s)) (triple (a .t)) (a .b) 0) (c4 .before .before .before .scatter-triangle-block .ensures) (c .before .before .scatter-triangle-block2 .ensures))
 
 returns-2 : tie.Need-returns-2
 returns-2 c =
-    let a = c .before .before .before .before .before .before .before .args in
+    let c4 = c .before .before .before .before in
+    let a = c4 .before .before .before .args in
     rw (not-false (a .same) (c .if1 .left))
-    (one-added (marked (now (a .marks))) (a .n) (now (a .out)) (blockEntries (three (a .s)) (three (a .t)) (a .b) 0) (c .before .before .before .scatter-triangle-block .ensures))
+    (one-added (marked (now (a .marks))) (a .n) (now (a .out)) (blockEntries (triple (a .s)) (triple (a .t)) (a .b) 0) (c .before .before .before .scatter-triangle-block .ensures))
 
 pub scatter-pair-spec : {M : Type 1} → statement M
 scatter-pair-spec =

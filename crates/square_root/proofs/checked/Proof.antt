@@ -27,7 +27,8 @@ float-to-bits-b c = self-equal (c .before .before .args .x) (c .before .if1 .lef
 
 returns-3 : tie.Need-returns-3
 returns-3 c =
-    let s = c .before .before .before .before .before .before in
+    let c4 = c .before .before .before .before in
+    let s = c4 .before .before in
     c .before .passes .ensures .1 (subst T (sym (c .if5 .taken)) tt) ∙ ap (λ (y : Float). sqrt y) (ofBits-toBits binary64 (s .args .x) (held s))
 
 returns-4 : tie.Need-returns-4

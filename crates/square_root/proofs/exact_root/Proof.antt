@@ -9,9 +9,11 @@ use lib.Ieee.Bits.{ofBits-toBits, toBits-lt}
 use lib.Ieee.Compare.{differs-from-itself}
 use Rattle.binary64.specs.Operations.{squareRoot, sqrt}
 use Rattle.binary64.proofs.Pattern.{self-equal, no-nan}
-use Rattle.square_root.proofs.Special.{own-root, zero-root, minus-zero-root, infinity-root, nan-root, no-root, zero-over-zero, sqrt-fits}
+use Rattle.square_root.proofs.Special.{own-root, zero-root, minus-zero-root, infinity-root, nan-root, no-root, zero-over-zero}
+use Rattle.binary64.proofs.Root.Value.{sqrt-fits}
 use Rattle.square_root.proofs.exact_root.Statement.{statement}
 use Rattle.square_root.proofs.exact_root.Tie as tie
+use Rattle.binary64.specs.Format.{infinityBits}
 
 -- what owning an `f64` tells: the format holds it
 held : (c : tie.Start) → T (fits binary64 (c .args .x))
@@ -41,20 +43,23 @@ returns-3 c =
 
 returns-4 : tie.Need-returns-4
 unfolding sqrt
-returns-4 c = let x = c .before .before .before .before .args .x in own-root x 0x7ff0_0000_0000_0000 (held (c .before .before .before .before)) (omega arith) infinity-root
+returns-4 c = let x = c .before .before .before .before .args .x in own-root x infinityBits (held (c .before .before .before .before)) (omega arith) infinity-root
 
 returns-5 : tie.Need-returns-5
 unfolding sqrt
-returns-5 c = let x = c .before .before .before .before .before .args .x in own-root x 0x8000_0000_0000_0000 (held (c .before .before .before .before .before)) (omega arith) minus-zero-root
+returns-5 c =
+    let c4 = c .before .before .before .before in
+    let x = c4 .before .args .x in own-root x 0x8000_0000_0000_0000 (held (c4 .before)) (omega arith) minus-zero-root
 
 returns-6 : tie.Need-returns-6
 unfolding sqrt
 returns-6 c =
-    let x = c .before .before .before .before .before .args .x in
-    let h = held (c .before .before .before .before .before) in
+    let c4 = c .before .before .before .before in
+    let x = c4 .before .args .x in
+    let h = held (c4 .before) in
     let b = toBits binary64 x in
     let u : b < 2 ^ 64 = toBits-lt binary64 x h in
-    let n : 0x7ff0_0000_0000_0000 < b = omega arith in
+    let n : infinityBits < b = omega arith in
     let m : b ≡ 2 ^ 63 → ⊥ = λ e. omega arith in
     zero-over-zero ∙ sym (no-root b n m u) ∙ ap (λ (y : Float). squareRoot binary64 y) (ofBits-toBits binary64 x h)
 

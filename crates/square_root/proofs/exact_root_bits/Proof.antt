@@ -1,20 +1,21 @@
--- The pattern’s digits, shifted up to an even place, are m; r is nearest to the root of m * 2 ^ 52, so `root-law` says which pattern the root has.
+-- The pattern’s significand, shifted up to an even exponent, is m; r is nearest to the root of m * 2 ^ 52, so `root-law` says which pattern the root has.
 use borrow.Author.Needs.{needs}
 use mathlib.Core.Path.{_≡_, sym, subst}
 use Prim.Native.Nat.{ℕ, _+_, _-_, _*_, _%_, _^_, _≤_, _<_}
 use native.Mathlib.Omega.{arith}
-use Rattle.binary64.specs.Pattern.{digitsOf, placeOf}
+use Rattle.binary64.specs.Pattern.{significandOf, exponentOf}
 use Rattle.binary64.specs.Operations.{sqrt}
-use Rattle.square_root.specs.Nearest.{NearRoot, Scaled, Digits}
-use Rattle.square_root.proofs.RootPattern.{scaled, shl-twice, root-law}
+use Rattle.binary64.specs.Nearest.{NearRoot, Scaled, Digits}
+use Rattle.binary64.proofs.Root.Pattern.{scaled, root-law}
+use Rattle.square_root.proofs.Words.{shl-twice}
 use Rattle.square_root.proofs.exact_root_bits.Statement.{statement}
 use Rattle.square_root.proofs.exact_root_bits.Tie as tie
 
 near-root-requires : tie.Need-near-root-requires
 near-root-requires c κs =
-    let t = c .before .before .digits .result in
+    let t = c .before .before .significand .result in
     let z = c .before .shift .result in
-    let d = c .place .result + 52 - z in
+    let d = c .exponent .result + 52 - z in
     let l : 2 ^ 52 ≤ t * 2 ^ z = c .before .shift .ensures .1 .0 in
     let h : t * 2 ^ z < 2 ^ 53 = c .before .shift .ensures .1 .1 in
     let e : d % 2 < 2 = omega arith in
@@ -24,9 +25,9 @@ returns : tie.Need-returns
 unfolding sqrt
 returns c =
     let b = c .before .before .before .before .args .b in
-    let t = c .before .before .before .digits .result in
+    let t = c .before .before .before .significand .result in
     let z = c .before .before .shift .result in
-    let k = c .before .place .result in
+    let k = c .before .exponent .result in
     let d = k + 52 - z in
     let r = c .near-root .result in
     let l : 2 ^ 52 ≤ t * 2 ^ z = c .before .before .shift .ensures .1 .0 in
@@ -35,10 +36,10 @@ returns c =
     let s : t * 2 ^ z % 2 ^ 64 * 2 ^ (d % 2) % 2 ^ 64 ≡ t * 2 ^ z * 2 ^ (d % 2) = shl-twice (t * 2 ^ z) (d % 2) l h e in
     let nr : NearRoot (t * 2 ^ z * 2 ^ (d % 2) * 2 ^ 52) r = subst (λ (m : ℕ). NearRoot (m * 2 ^ 52) r) s (c .near-root .ensures .1) in
     let dg : Digits r = c .near-root .ensures .0 in
-    let te : t ≡ digitsOf b = c .before .before .before .digits .ensures .0 in
-    let ke : k ≡ placeOf b = c .before .place .ensures in
-    let tp : 0 < t = c .before .before .before .digits .ensures .1 .0 in
-    let ek : d + z ≡ placeOf b + 52 = omega arith in (
+    let te : t ≡ significandOf b = c .before .before .before .significand .ensures .0 in
+    let ke : k ≡ exponentOf b = c .before .exponent .ensures in
+    let tp : 0 < t = c .before .before .before .significand .ensures .1 .0 in
+    let ek : d + z ≡ exponentOf b + 52 = omega arith in (
       omega arith,
       sym (root-law b z d r (omega arith) (subst (λ (x : ℕ). 0 < x) te tp) ek
           (subst (λ (x : ℕ). Scaled (x * 2 ^ z * 2 ^ (d % 2))) te (scaled (t * 2 ^ z) (d % 2) l h e))

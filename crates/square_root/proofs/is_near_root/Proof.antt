@@ -28,7 +28,7 @@ returns c =
     far-over (a .args .m) (a .args .r) (a .pre .0) (e .word) (e .borrow) (d .subtract .ensures .1) (d .subtract .ensures .2) (words d) (λ g. c .if1 .taken (h .high-product .ensures ∙ g))
 
 -- the upper words
-same : (c : tie.Else1) → c .before .before .before .before .before .args .r * (c .before .before .before .before .before .args .r + 1) / 2 ^ 64 ≡ c .before .before .before .before .before .args .m / 4096 + c .before .before .before .subtract .result .borrow
+same : (c : tie.Else1) → let c4 = c .before .before .before .before in c4 .before .args .r * (c4 .before .args .r + 1) / 2 ^ 64 ≡ c4 .before .args .m / 4096 + c .before .before .before .subtract .result .borrow
 same c = sym (c .before .before .high-product .ensures) ∙ c .if1 .left
 
 mul-result : tie.Need-mul-result

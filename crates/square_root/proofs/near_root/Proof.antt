@@ -19,8 +19,9 @@ loop-holds c = start (c .args .m) (c .pre)
 
 loop-again : tie.Need-loop-again Inv-loop μ-loop
 loop-again c =
-    let l = c .before .before .before .before .loop in
-    let m = c .before .before .before .before .before .args .m in
+    let c4 = c .before .before .before .before in
+    let l = c4 .loop in
+    let m = c4 .before .args .m in
     let i : l .i < 52 = omega arith in
     ⊎-elim
     (λ w. subst (λ (x : ℕ). Interval m (l .i + 1) x (l .w / 2)) (sym (w .1)) (upper-half m (l .i) (l .r) (l .w) (l .inv) i (omega arith)))

@@ -9,7 +9,7 @@ use lib.Ieee.Bits.{ofBits-toBits, ofBits-fits}
 use Rattle.binary64.proofs.Pattern.{self-equal}
 use Rattle.binary64.specs.Operations.{squareRoot, sqrt}
 use Rattle.square_root.specs.Estimate as Estimate
-use Rattle.square_root.proofs.Special.{sqrt-fits}
+use Rattle.binary64.proofs.Root.Value.{sqrt-fits}
 use Rattle.square_root.proofs.Test.{passed}
 use Rattle.square_root.proofs.passes.Statement.{statement}
 use Rattle.square_root.proofs.passes.Tie as tie

@@ -1,9 +1,9 @@
 -- The two words of the product (`high-is`, `low-is`); it is below 2 ^ 107, so that its upper word has room for 12 bits more (`room`).
 use mathlib.Core.Path.{_≡_, ap, _∙_}
-use Prim.Native.Nat.{ℕ, _+_, _*_, _/_, _%_, _^_, _≤_, _<_}
+use Prim.Native.Nat.{ℕ, _+_, _*_, _/_, _%_, _^_, _<_}
 use native.Mathlib.Omega.{arith}
 use borrow.Author.Needs.{needs}
-use Rattle.square_root.proofs.Square.{pronic-lt, high-is, low-is}
+use Rattle.square_root.proofs.Words.{pronic-lt, high-is, low-is}
 use Rattle.square_root.proofs.pronic.Statement.{statement}
 use Rattle.square_root.proofs.pronic.Tie as tie
 

@@ -24,7 +24,8 @@ float-to-bits-b c = self-equal (c .before .args .x) (c .if1 .left)
 
 returns-2 : tie.Need-returns-2
 returns-2 c =
-    let s = c .before .before .before .before .before .before in
+    let c4 = c .before .before .before .before in
+    let s = c4 .before .before in
     c .before .passes .ensures .1 (subst T (sym (c .if4 .taken)) tt) ∙ ap (λ (y : Float). sqrt y) (ofBits-toBits binary64 (s .args .x) (held s))
 
 returns-3 : tie.Need-returns-3

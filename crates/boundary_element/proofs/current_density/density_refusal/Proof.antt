@@ -15,7 +15,9 @@ returns c = mesh-stopped _ _ _ _ _ (c .before .mesh-refusal .ensures) (c .if1 .t
 returns-2 : tie.Need-returns-2
 unfolding densityRefusal first
 returns-2 c =
-    let a = c .before .before .before .before .before .before .before .before .before .args in
+    let c4 = c .before .before .before .before in
+    let c8 = c4 .before .before .before .before in
+    let a = c8 .before .args in
     let m : Mesh = meshOf (now (a .x)) (now (a .y)) (now (a .z)) (now (a .t0)) (now (a .t1)) (now (a .t2)) in
     let p = mesh-passed maxNodes maxPanels m (densityChecks (nnode m) (ntri m) (a .values) (a .lx) (a .ly) (a .lz)) _ (c .before .before .mesh-refusal .ensures) (c .before .if1 .left) in
     rw (p, ne-eqb _ _ (c .if2 .taken))
@@ -23,18 +25,22 @@ returns-2 c =
 returns-3 : tie.Need-returns-3
 unfolding densityRefusal first
 returns-3 c =
-    let a = c .before .before .before .before .before .before .before .before .before .before .before .args in
+    let c4 = c .before .before .before .before in
+    let c8 = c4 .before .before .before .before in
+    let a = c8 .before .before .before .args in
     let m : Mesh = meshOf (now (a .x)) (now (a .y)) (now (a .z)) (now (a .t0)) (now (a .t1)) (now (a .t2)) in
-    let p = mesh-passed maxNodes maxPanels m (densityChecks (nnode m) (ntri m) (a .values) (a .lx) (a .ly) (a .lz)) _ (c .before .before .before .before .mesh-refusal .ensures) (c .before .before .before .if1 .left) in
-    rw (p, eq-eqb _ _ (c .before .before .if2 .left), ← c .before .outputs-differ .ensures, c .if3 .taken)
+    let p = mesh-passed maxNodes maxPanels m (densityChecks (nnode m) (ntri m) (a .values) (a .lx) (a .ly) (a .lz)) _ (c4 .mesh-refusal .ensures) (c .before .before .before .if1 .left) in
+    rw (p, eq-eqb _ _ (c .before .before .if2 .left), ← c .before .columns-differ .ensures, c .if3 .taken)
 
 returns-4 : tie.Need-returns-4
 unfolding densityRefusal first
 returns-4 c =
-    let a = c .before .before .before .before .before .before .before .before .before .before .before .args in
+    let c4 = c .before .before .before .before in
+    let c8 = c4 .before .before .before .before in
+    let a = c8 .before .before .before .args in
     let m : Mesh = meshOf (now (a .x)) (now (a .y)) (now (a .z)) (now (a .t0)) (now (a .t1)) (now (a .t2)) in
-    let p = mesh-passed maxNodes maxPanels m (densityChecks (nnode m) (ntri m) (a .values) (a .lx) (a .ly) (a .lz)) _ (c .before .before .before .before .mesh-refusal .ensures) (c .before .before .before .if1 .left) in
-    rw (p, eq-eqb _ _ (c .before .before .if2 .left), ← c .before .outputs-differ .ensures, c .if3 .left)
+    let p = mesh-passed maxNodes maxPanels m (densityChecks (nnode m) (ntri m) (a .values) (a .lx) (a .ly) (a .lz)) _ (c4 .mesh-refusal .ensures) (c .before .before .before .if1 .left) in
+    rw (p, eq-eqb _ _ (c .before .before .if2 .left), ← c .before .columns-differ .ensures, c .if3 .left)
 
 pub density-refusal-spec : {M : Type 1} → statement M
 density-refusal-spec = tie.close (tie.spec (λ c κs. tt) returns returns-2 (λ c κs. tt) returns-3 returns-4)

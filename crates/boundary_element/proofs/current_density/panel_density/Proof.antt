@@ -1,20 +1,19 @@
 -- What an accepted mesh says of panel i is what each reader requires; the callees' results are put in place.
-use mathlib.Core.Path.{_≡_, sym}
 use native.Mathlib.Omega.{arith}
-use denote.Ref.{now}
-use lib.ListN.{length}
-use Rattle.boundary_element.specs.CurrentDensity.{panelDensity}
 use Rattle.boundary_element.proofs.current_density.panel_density.Statement.{statement}
 use Rattle.boundary_element.proofs.current_density.panel_density.Tie as tie
 
 triangle-nodes-requires : tie.Need-triangle-nodes-requires
 triangle-nodes-requires c κs =
-    let s = c .before .before .before .before .before .before .before in
+    let c4 = c .before .before .before .before in
+    let s = c4 .before .before .before in
     (s .pre .0 .nodes-alike, (s .pre .0 .panels-alike, (s .pre .1 .1, s .pre .0 .none-missing (s .args .i) (s .pre .1 .1))))
 
 triangle-scalars-requires : tie.Need-triangle-scalars-requires
 triangle-scalars-requires c κs =
-    let s = c .before .before .before .before .before .before .before .before .before in
+    let c4 = c .before .before .before .before in
+    let c8 = c4 .before .before .before .before in
+    let s = c8 .before in
     let b = s .pre .0 .none-missing (s .args .i) (s .pre .1 .1) in
     rw (c .triangle-indices .ensures, s .pre .1 .0) (b .below0, b .below1, b .below2)
 

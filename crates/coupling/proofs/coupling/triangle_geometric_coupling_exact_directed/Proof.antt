@@ -49,7 +49,7 @@ returns c =
     let b1 = c .before in let b2 = b1 .before in let b7 = b2 .before .before .before .before .before in let b8 = b7 .before in let b9 = b8 .before in let b10 = b9 .before in
     let a = b10 .before .args in
     let pot = b1 .scalar-potentials .result in
-    let e : b7 .points-by .result ≡ pointsOf (a .kind) (coordinates (a .target)) (area (a .target)) = rw (b7 .points-by .ensures, b8 .area .ensures, b9 .nine .ensures, b10 .rows-of .ensures) in
+    let e : b7 .points-by .result ≡ pointsOf (a .kind) (coordinates (a .target)) (area (a .target)) = rw (b7 .points-by .ensures, b8 .area .ensures, b9 .coordinates .ensures, b10 .rows-of .ensures) in
     c .weighted .ensures
     ∙ ap (sumTo (λ (j : ℕ). at (b7 .points-by .result .w) j ⊗ at pot j)) (b2 .quadrature-count .ensures)
     ∙ ap (λ (q : Points). sumTo (λ (j : ℕ). at (q .w) j ⊗ at pot j) (quadratureCount (a .kind))) e

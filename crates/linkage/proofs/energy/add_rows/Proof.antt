@@ -23,14 +23,16 @@ loop-holds c = (search needs, refl)
 
 stretch-requires : tie.Need-stretch-requires Inv-loop μ-loop
 stretch-requires c κs =
-    let a = c .before .before .before .before .before .args in
+    let c4 = c .before .before .before .before in
+    let a = c4 .before .args in
     let l = c .before .loop in
     let h : l .i < length (now (a .s)) = omega arith in
-    omega (arith, c .before .before .before .before .before .pre .1, row-end (length (now (a .s))) (length (now (a .s))) (l .i) h)
+    omega (arith, c4 .before .pre .1, row-end (length (now (a .s))) (length (now (a .s))) (l .i) h)
 
 add-row-requires : tie.Need-add-row-requires Inv-loop μ-loop
 add-row-requires c κs =
-    let p = c .before .before .before .before .before .before in
+    let c4 = c .before .before .before .before in
+    let p = c4 .before .before in
     (p .pre .0, omega arith, rw (c .stretch .ensures) (stretch-long _ _ _ (stretch-requires (c .before) (c .stretch .lifetimes))))
 
 add-i : tie.Need-add-i Inv-loop μ-loop
@@ -44,8 +46,9 @@ loop-again c = (search needs, rw (rows-more, ← c .before .before .before .loop
 
 returns : tie.Need-returns Inv-loop μ-loop
 returns c =
+    let c4 = c .before .before .before .before in
     let l = c .before .loop in
-    let e : l .i ≡ length (c .before .before .before .before .before .args .s .now) = omega arith in
+    let e : l .i ≡ length (c4 .before .args .s .now) = omega arith in
     rw (← e) (l .inv .1)
 
 pub add-rows-spec : {M : Type 1} → statement M

@@ -30,10 +30,11 @@ shared-slice-read-out c = search needs
 
 row-flux-requires : tie.Need-row-flux-requires Inv-loop μ-loop
 row-flux-requires c κs =
-    let a = c .before .before .before .before .before .before .args in
+    let c4 = c .before .before .before .before in
+    let a = c4 .before .before .args in
     let l = c .before .before .loop in
     let h : l .i < length (now (a .values)) = omega arith in
-    omega (arith, c .before .before .before .before .before .before .pre, row-end (length (now (a .values))) (length (now (a .coefficients))) (l .i) h)
+    omega (arith, c4 .before .before .pre, row-end (length (now (a .values))) (length (now (a .coefficients))) (l .i) h)
 
 add-i : tie.Need-add-i Inv-loop μ-loop
 add-i c = search needs
@@ -46,8 +47,9 @@ loop-again c = (search needs, rw (sum-more, ← c .before .before .before .loop 
 
 returns : tie.Need-returns Inv-loop μ-loop
 returns c =
+    let c4 = c .before .before .before .before in
     let l = c .before .loop in
-    let e : l .i ≡ length (c .before .before .before .before .before .args .values .now) = omega arith in
+    let e : l .i ≡ length (c4 .before .args .values .now) = omega arith in
     rw (← e) (l .inv .1)
 
 pub add-interaction-spec : {M : Type 1} → statement M

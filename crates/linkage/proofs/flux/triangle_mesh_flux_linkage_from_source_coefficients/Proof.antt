@@ -13,7 +13,9 @@ fill-flux-requires : tie.Need-fill-flux-requires
 fill-flux-requires c κs = map-sized _ _ _ _ (c .before .before .map-refusal .ensures) (c .before .if1 .left)
 
 returns-2 : tie.Need-returns-2
-returns-2 c = record { refusal = sym (c .before .before .before .before .if1 .left) ∙ c .before .before .before .before .before .map-refusal .ensures; flux = c .before .before .fill-flux .ensures ∙ sym (after-done 0 _ _ refl) }
+returns-2 c =
+    let c4 = c .before .before .before .before in
+    record { refusal = sym (c4 .if1 .left) ∙ c4 .before .map-refusal .ensures; flux = c .before .before .fill-flux .ensures ∙ sym (after-done 0 _ _ refl) }
 
 pub triangle-mesh-flux-linkage-from-source-coefficients-spec : {M : Type 1} → statement M
 triangle-mesh-flux-linkage-from-source-coefficients-spec =

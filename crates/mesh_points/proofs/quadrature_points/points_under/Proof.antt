@@ -21,14 +21,21 @@ returns c =
 
 fill-points-requires : tie.Need-fill-points-requires
 fill-points-requires c κs =
-    let a = c .before .before .before .before .before .before .before .before .before .before .before .before .before .before .before .before .args in
-    points-ready (a .kind) (meshOf (now (a .x)) (now (a .y)) (now (a .z)) (now (a .t0)) (now (a .t1)) (now (a .t2))) (now (a .px)) (now (a .py)) (now (a .pz)) (now (a .pw)) (sym (c .before .before .before .before .before .points-refusal .ensures) ∙ c .before .before .before .before .if1 .left)
+    let c4 = c .before .before .before .before in
+    let c8 = c4 .before .before .before .before in
+    let c12 = c8 .before .before .before .before in
+    let c16 = c12 .before .before .before .before in
+    let a = c16 .args in
+    points-ready (a .kind) (meshOf (now (a .x)) (now (a .y)) (now (a .z)) (now (a .t0)) (now (a .t1)) (now (a .t2))) (now (a .px)) (now (a .py)) (now (a .pz)) (now (a .pw)) (sym (c4 .before .points-refusal .ensures) ∙ c4 .if1 .left)
 
 returns-2 : tie.Need-returns-2
 returns-2 c =
-    let e = c .before .before .before .before .before .before .before .before .fill-points .ensures in
+    let c4 = c .before .before .before .before in
+    let c8 = c4 .before .before .before .before in
+    let c12 = c8 .before .before .before .before in
+    let e = c8 .fill-points .ensures in
     record {
-      number = sym (c .before .before .before .before .before .before .before .before .before .before .before .before .before .if1 .left) ∙ c .before .before .before .before .before .before .before .before .before .before .before .before .before .before .points-refusal .ensures;
+      number = sym (c12 .before .if1 .left) ∙ c12 .before .before .points-refusal .ensures;
       x = e .x ∙ sym (after-done 0 _ _ refl);
       y = e .y ∙ sym (after-done 0 _ _ refl);
       z = e .z ∙ sym (after-done 0 _ _ refl);

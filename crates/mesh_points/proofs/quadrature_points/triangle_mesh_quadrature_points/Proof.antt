@@ -10,7 +10,12 @@ refused : _≡_ {A = ℕ} 12 0 → ⊥
 refused e = omega arith
 
 returns : tie.Need-returns
-returns c = rw (← c .before .before .before .before .before .before .before .before .before .before .before .before .before .before .before .before .quadrature-rule .ensures, c .before .before .before .before .before .before .before .before .before .before .before .before .before .before .known .given .1) (c .before .before .before .before .before .before .before .before .points-under .ensures)
+returns c =
+    let c4 = c .before .before .before .before in
+    let c8 = c4 .before .before .before .before in
+    let c12 = c8 .before .before .before .before in
+    let c16 = c12 .before .before .before .before in
+    rw (← c16 .quadrature-rule .ensures, c12 .before .before .known .given .1) (c8 .points-under .ensures)
 
 returns-2 : tie.Need-returns-2
 returns-2 c =

@@ -5,7 +5,9 @@ use Rattle.oracle_calls.proofs.kinds.agrees.Tie as tie
 
 returns : tie.Need-returns
 unfolding agrees
-returns c = rw (← c .before .before .before .before .before .words .ensures, ← c .before .before .before .numbers .ensures) (c .calls-agree .ensures)
+returns c =
+    let c4 = c .before .before .before .before in
+    rw (← c4 .before .words .ensures, ← c .before .before .before .numbers .ensures) (c .calls-agree .ensures)
 
 pub agrees-spec : {M : Type 1} → statement M
 agrees-spec = tie.close (tie.spec (λ c κs. tt) (λ c κs. tt) (λ c κs. tt) returns)

@@ -5,7 +5,10 @@ use Rattle.oracle_matrices.proofs.kinds.agrees.Tie as tie
 
 returns : tie.Need-returns
 unfolding agrees
-returns c = rw (← c .before .before .before .before .before .before .before .before .words .ensures, ← c .before .before .before .before .before .before .numbers .ensures, ← c .before .before .before .before .places .ensures) (c .matrices-agree .ensures)
+returns c =
+    let c4 = c .before .before .before .before in
+    let c8 = c4 .before .before .before .before in
+    rw (← c8 .words .ensures, ← c4 .before .before .numbers .ensures, ← c4 .places .ensures) (c .matrices-agree .ensures)
 
 pub agrees-spec : {M : Type 1} → statement M
 agrees-spec = tie.close (tie.spec (λ c κs. tt) (λ c κs. tt) (λ c κs. tt) (λ c κs. tt) returns)

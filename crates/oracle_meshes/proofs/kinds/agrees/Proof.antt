@@ -5,7 +5,21 @@ use Rattle.oracle_meshes.proofs.kinds.agrees.Tie as tie
 
 returns : tie.Need-returns
 unfolding agrees
-returns c = rw (← c .before .before .before .before .before .before .before .before .before .before .before .before .before .before .before .before .before .before .before .words .ensures, ← c .before .before .before .before .before .before .before .before .before .before .before .before .before .before .before .before .before .numbers .ensures, ← c .before .before .before .before .before .before .before .before .before .before .before .before .before .before .before .places .ensures, ← c .before .before .before .before .before .before .before .before .before .before .before .agree .ensures, ← c .before .before .before .before .before .before .before .before .agree2 .ensures, ← c .before .before .before .before .before .agree3 .ensures, ← c .before .before .agree4 .ensures, ← c .agree5 .ensures)
+returns c =
+    let c4 = c .before .before .before .before in
+    let c8 = c4 .before .before .before .before in
+    let c12 = c8 .before .before .before .before in
+    let c16 = c12 .before .before .before .before in
+    rw (
+      ← c16 .before .before .before .words .ensures,
+      ← c16 .before .numbers .ensures,
+      ← c12 .before .before .before .places .ensures,
+      ← c8 .before .before .before .agree .ensures,
+      ← c8 .agree2 .ensures,
+      ← c4 .before .agree3 .ensures,
+      ← c .before .before .agree4 .ensures,
+      ← c .agree5 .ensures,
+    )
 
 pub agrees-spec : {M : Type 1} → statement M
 agrees-spec = tie.close (tie.spec (λ c κs. tt) (λ c κs. tt) (λ c κs. tt) (λ c κs. tt) (λ c κs. tt) (λ c κs. tt) (λ c κs. tt) (λ c κs. tt) returns)

@@ -1,8 +1,8 @@
 -- The place along the edge and the distance from its line, by their contracts; `square_add(h, d * d)` is fma h h (d ⊗ d).
+use Rattle.lists.proofs.Indices.{index-fits}
 use Rattle.potential.specs.Potential as Spec
 use native.Mathlib.Omega.{arith}
-use mir.Syntax.{w64}
-use borrow.Author.Needs.{needs, fits-under}
+use borrow.Author.Needs.{needs}
 use Rattle.potential.proofs.UniformTriangle.edge_integral_from.Statement.{statement}
 use Rattle.potential.proofs.UniformTriangle.edge_integral_from.Tie as tie
 
@@ -22,4 +22,4 @@ returns c =
 pub edge-integral-from-spec : {M : Type 1} → statement M
 edge-integral-from-spec =
     tie.close
-    (tie.spec (λ c κs. omega arith) (λ c κs. tt) (λ c. fits-under w64 _ 4096 (omega arith) tt) (search needs) (λ c κs. tt) (λ c κs. tt) (λ c κs. tt) returns)
+    (tie.spec (λ c κs. omega arith) (λ c κs. tt) (λ c. index-fits (omega arith)) (search needs) (λ c κs. tt) (λ c κs. tt) (λ c κs. tt) returns)

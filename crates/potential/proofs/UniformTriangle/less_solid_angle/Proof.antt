@@ -31,7 +31,8 @@ returns c =
 returns-2 : tie.Need-returns-2
 unfolding Spec.lessSolidAngle Spec.signedSolidAngle
 returns-2 c =
-    let b4 = c .before .before .before .before .before in
+    let c4 = c .before .before .before .before in
+    let b4 = c4 .before in
     let b5 = b4 .before in let b6 = b5 .before in let b7 = b6 .before in let b8 = b7 .before in
     rw (
       c .solid-angle .ensures,

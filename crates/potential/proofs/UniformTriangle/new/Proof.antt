@@ -5,7 +5,7 @@ use Rattle.potential.proofs.UniformTriangle.new.Statement.{statement}
 use Rattle.potential.proofs.UniformTriangle.new.Tie as tie
 
 returns : tie.Need-returns
-unfolding Spec.uniformTriangle Spec.kept
+unfolding Spec.uniformTriangle Spec.uniformTriangleOf
 returns c =
     let b1 = c .before in let b2 = b1 .before in let b3 = b2 .before in let b4 = b3 .before in
     let b5 = b4 .before in let b6 = b5 .before in let b7 = b6 .before in let b8 = b7 .before in
@@ -18,9 +18,9 @@ returns c =
       c .longer3 .ensures,
       b1 .longer2 .ensures,
       b2 .longer .ensures,
-      b3 .nine3 .ensures,
-      b7 .nine2 .ensures,
-      b11 .nine .ensures,
+      b3 .joined3 .ensures,
+      b7 .joined2 .ensures,
+      b11 .joined .ensures,
       b15 .edge-between3 .ensures,
       b18 .edge-between2 .ensures,
       b21 .edge-between .ensures,

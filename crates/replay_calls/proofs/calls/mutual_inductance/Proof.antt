@@ -4,7 +4,9 @@ use Rattle.replay_calls.proofs.calls.mutual_inductance.Statement.{state
 use Rattle.replay_calls.proofs.calls.mutual_inductance.Tie as tie
 
 returns : tie.Need-returns
-returns c = rw (← c .before .before .before .before .before .before .rule-of .ensures, ← c .before .before .before .triangle .ensures, ← c .before .before .triangle2 .ensures, ← c .before .triangle-basis-mutual-inductance .ensures) (c .same-value .ensures)
+returns c =
+    let c4 = c .before .before .before .before in
+    rw (← c4 .before .before .rule-of .ensures, ← c .before .before .before .triangle .ensures, ← c .before .before .triangle2 .ensures, ← c .before .triangle-basis-mutual-inductance .ensures) (c .same-value .ensures)
 
 pub mutual-inductance-spec : {M : Type 1} → statement M
 mutual-inductance-spec = tie.close (tie.spec (search needs) (search needs) (search needs) (search needs) (search needs) (search needs) (search needs) (search needs) returns)

@@ -1,53 +1,27 @@
--- One case a kind.
-use borrow.Author.Tests.{eq-eqb, ne-eqb}
+-- At a kind's own number the definition is its comparison; at any other, false.
 use borrow.Author.Needs.{needs}
-use Rattle.replay_calls.specs.Kinds.{panelsAgree}
+use Rattle.replay_calls.specs.Kinds.{panelsAgree, chosen}
+use Rattle.replay_calls.proofs.Chosen.{none-chosen}
 use Rattle.replay_calls.proofs.panels.agree.Statement.{statement}
 use Rattle.replay_calls.proofs.panels.agree.Tie as tie
 
-returns : tie.Need-returns
-unfolding panelsAgree
-returns c = rw (eq-eqb _ _ (c .before .if1 .taken)) (c .closest-point .ensures)
-
-returns-2 : tie.Need-returns-2
-unfolding panelsAgree
-returns-2 c = rw (ne-eqb _ _ (c .before .before .if1 .left), eq-eqb _ _ (c .before .if2 .taken)) (c .area .ensures)
-
-returns-3 : tie.Need-returns-3
-unfolding panelsAgree
-returns-3 c = rw (ne-eqb _ _ (c .before .before .before .if1 .left), ne-eqb _ _ (c .before .before .if2 .left), eq-eqb _ _ (c .before .if3 .taken)) (c .quality .ensures)
-
-returns-4 : tie.Need-returns-4
-unfolding panelsAgree
-returns-4 c = rw (ne-eqb _ _ (c .before .before .before .before .if1 .left), ne-eqb _ _ (c .before .before .before .if2 .left), ne-eqb _ _ (c .before .before .if3 .left), eq-eqb _ _ (c .before .if4 .taken)) (c .potential .ensures)
-
-returns-5 : tie.Need-returns-5
-unfolding panelsAgree
-returns-5 c = rw (ne-eqb _ _ (c .before .before .before .before .before .if1 .left), ne-eqb _ _ (c .before .before .before .before .if2 .left), ne-eqb _ _ (c .before .before .before .if3 .left), ne-eqb _ _ (c .before .before .if4 .left), eq-eqb _ _ (c .before .if5 .taken)) (c .gradient .ensures)
-
-returns-6 : tie.Need-returns-6
-unfolding panelsAgree
-returns-6 c = rw (ne-eqb _ _ (c .before .before .before .before .before .before .if1 .left), ne-eqb _ _ (c .before .before .before .before .before .if2 .left), ne-eqb _ _ (c .before .before .before .before .if3 .left), ne-eqb _ _ (c .before .before .before .if4 .left), ne-eqb _ _ (c .before .before .if5 .left), eq-eqb _ _ (c .before .if6 .taken)) (c .contact .ensures)
-
-returns-7 : tie.Need-returns-7
-unfolding panelsAgree
-returns-7 c = rw (ne-eqb _ _ (c .before .before .before .before .before .before .before .if1 .left), ne-eqb _ _ (c .before .before .before .before .before .before .if2 .left), ne-eqb _ _ (c .before .before .before .before .before .if3 .left), ne-eqb _ _ (c .before .before .before .before .if4 .left), ne-eqb _ _ (c .before .before .before .if5 .left), ne-eqb _ _ (c .before .before .if6 .left), eq-eqb _ _ (c .before .if7 .taken)) (c .basis-densities .ensures)
-
-returns-8 : tie.Need-returns-8
-unfolding panelsAgree
-returns-8 c = rw (ne-eqb _ _ (c .before .before .before .before .before .before .before .before .if1 .left), ne-eqb _ _ (c .before .before .before .before .before .before .before .if2 .left), ne-eqb _ _ (c .before .before .before .before .before .before .if3 .left), ne-eqb _ _ (c .before .before .before .before .before .if4 .left), ne-eqb _ _ (c .before .before .before .before .if5 .left), ne-eqb _ _ (c .before .before .before .if6 .left), ne-eqb _ _ (c .before .before .if7 .left), eq-eqb _ _ (c .before .if8 .taken)) (c .panel-density .ensures)
-
-returns-9 : tie.Need-returns-9
-unfolding panelsAgree
-returns-9 c = rw (ne-eqb _ _ (c .before .before .before .before .before .before .before .before .before .if1 .left), ne-eqb _ _ (c .before .before .before .before .before .before .before .before .if2 .left), ne-eqb _ _ (c .before .before .before .before .before .before .before .if3 .left), ne-eqb _ _ (c .before .before .before .before .before .before .if4 .left), ne-eqb _ _ (c .before .before .before .before .before .if5 .left), ne-eqb _ _ (c .before .before .before .before .if6 .left), ne-eqb _ _ (c .before .before .before .if7 .left), ne-eqb _ _ (c .before .before .if8 .left), eq-eqb _ _ (c .before .if9 .taken)) (c .map-point .ensures)
-
-returns-10 : tie.Need-returns-10
-unfolding panelsAgree
-returns-10 c = rw (ne-eqb _ _ (c .before .before .before .before .before .before .before .before .before .before .if1 .left), ne-eqb _ _ (c .before .before .before .before .before .before .before .before .before .if2 .left), ne-eqb _ _ (c .before .before .before .before .before .before .before .before .if3 .left), ne-eqb _ _ (c .before .before .before .before .before .before .before .if4 .left), ne-eqb _ _ (c .before .before .before .before .before .before .if5 .left), ne-eqb _ _ (c .before .before .before .before .before .if6 .left), ne-eqb _ _ (c .before .before .before .before .if7 .left), ne-eqb _ _ (c .before .before .before .if8 .left), ne-eqb _ _ (c .before .before .if9 .left), eq-eqb _ _ (c .before .if10 .taken)) (c .normal .ensures)
-
 returns-11 : tie.Need-returns-11
 unfolding panelsAgree
-returns-11 c = rw (ne-eqb _ _ (c .before .before .before .before .before .before .before .before .before .if1 .left), ne-eqb _ _ (c .before .before .before .before .before .before .before .before .if2 .left), ne-eqb _ _ (c .before .before .before .before .before .before .before .if3 .left), ne-eqb _ _ (c .before .before .before .before .before .before .if4 .left), ne-eqb _ _ (c .before .before .before .before .before .if5 .left), ne-eqb _ _ (c .before .before .before .before .if6 .left), ne-eqb _ _ (c .before .before .before .if7 .left), ne-eqb _ _ (c .before .before .if8 .left), ne-eqb _ _ (c .before .if9 .left), ne-eqb _ _ (c .if10 .left))
+returns-11 c = none-chosen _ _ (search depth 12)
 
 pub agree-spec : {M : Type 1} → statement M
-agree-spec = tie.close (tie.spec (search needs) returns (search needs) returns-2 (search needs) returns-3 (search needs) returns-4 (search needs) returns-5 (search needs) returns-6 (search needs) returns-7 (search needs) returns-8 (search needs) returns-9 (search needs) returns-10 returns-11)
+unfolding panelsAgree chosen
+agree-spec =
+    tie.close
+    (tie.spec
+    (search needs) (λ c. rw (c .before .if1 .taken) (c .closest-point .ensures))
+    (search needs) (λ c. rw (c .before .if2 .taken) (c .area .ensures))
+    (search needs) (λ c. rw (c .before .if3 .taken) (c .quality .ensures))
+    (search needs) (λ c. rw (c .before .if4 .taken) (c .potential .ensures))
+    (search needs) (λ c. rw (c .before .if5 .taken) (c .gradient .ensures))
+    (search needs) (λ c. rw (c .before .if6 .taken) (c .contact .ensures))
+    (search needs) (λ c. rw (c .before .if7 .taken) (c .basis-densities .ensures))
+    (search needs) (λ c. rw (c .before .if8 .taken) (c .panel-density .ensures))
+    (search needs) (λ c. rw (c .before .if9 .taken) (c .map-point .ensures))
+    (search needs) (λ c. rw (c .before .if10 .taken) (c .normal .ensures))
+    returns-11)

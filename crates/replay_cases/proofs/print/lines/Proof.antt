@@ -19,7 +19,9 @@ unfolding total
 loop-holds c = (search needs, refl)
 
 loop-again : tie.Need-loop-again Inv-loop μ-loop
-loop-again c = (search needs, rw (total-more, ← c .before .before .before .before .before .loop .inv .1, ← c .before .line .ensures) (c .wrapping-add-u64 .ensures))
+loop-again c =
+    let c4 = c .before .before .before .before in
+    (search needs, rw (total-more, ← c4 .before .loop .inv .1, ← c .before .line .ensures) (c .wrapping-add-u64 .ensures))
 
 returns : tie.Need-returns Inv-loop μ-loop
 returns c =

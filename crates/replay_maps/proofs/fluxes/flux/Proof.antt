@@ -9,7 +9,14 @@ flux-into-requires c κs = search (needs, one-within)
 
 returns : tie.Need-returns
 returns c =
-    rw (← c .before .before .before .before .before .before .before .before .length-at .ensures .0, ← c .before .before .before .before .before .before .before .length-at2 .ensures .0, ← c .before .before .before .before .before .before .length-at3 .ensures .0) (c .before .flux-into .ensures)
+    let c4 = c .before .before .before .before in
+    let c8 = c4 .before .before .before .before in
+    rw (← c8 .length-at .ensures .0, ← c4 .before .before .before .length-at2 .ensures .0, ← c4 .before .before .length-at3 .ensures .0) (c .before .flux-into .ensures)
 
 pub flux-spec : {M : Type 1} → statement M
-flux-spec = tie.close (tie.spec (search needs) (search needs) (search needs) (search needs) (search needs) (search needs) (search needs) (search needs) (search needs) (search needs) (search needs) (search needs) (search needs) (search needs) (search needs) (search needs) (search needs) (search needs) (search needs) (search needs) (search needs) (search needs) flux-into-requires returns)
+flux-spec =
+    tie.close
+    (tie.spec
+    (search needs) (search needs) (search needs) (search needs) (search needs) (search needs) (search needs) (search needs) (search needs) (search needs) (search needs)
+    (search needs) (search needs) (search needs) (search needs) (search needs) (search needs) (search needs) (search needs) (search needs) (search needs) (search needs)
+    flux-into-requires returns)

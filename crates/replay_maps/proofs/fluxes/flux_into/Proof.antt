@@ -5,7 +5,8 @@ use Rattle.replay_maps.proofs.fluxes.flux_into.Tie as tie
 
 returns : tie.Need-returns
 returns c =
-    let e = c .before .before .before .before .before .triangle-mesh-flux-linkage-from-source-coefficients .ensures in
+    let c4 = c .before .before .before .before in
+    let e = c4 .before .triangle-mesh-flux-linkage-from-source-coefficients .ensures in
     rw (← e .refusal, ← e .flux, ← c .before .before .same-word .ensures, ← c .held .ensures)
 
 pub flux-into-spec : {M : Type 1} → statement M

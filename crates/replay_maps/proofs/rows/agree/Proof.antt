@@ -1,21 +1,15 @@
--- One case a kind.
-use borrow.Author.Tests.{eq-eqb, ne-eqb}
+-- At a kind's own number the definition is its comparison; at any other, false.
+use borrow.Author.Tests.{ne-eqb}
 use borrow.Author.Needs.{needs}
 use Rattle.replay_maps.specs.Maps.{rowsAgree}
 use Rattle.replay_maps.proofs.rows.agree.Statement.{statement}
 use Rattle.replay_maps.proofs.rows.agree.Tie as tie
 
-returns : tie.Need-returns
-unfolding rowsAgree
-returns c = rw (eq-eqb _ _ (c .before .if1 .taken)) (c .row-matrix .ensures)
-
-returns-2 : tie.Need-returns-2
-unfolding rowsAgree
-returns-2 c = rw (ne-eqb _ _ (c .before .before .if1 .left), eq-eqb _ _ (c .before .if2 .taken)) (c .row-map .ensures)
-
-returns-3 : tie.Need-returns-3
-unfolding rowsAgree
-returns-3 c = rw (ne-eqb _ _ (c .before .if1 .left), ne-eqb _ _ (c .if2 .left))
-
 pub agree-spec : {M : Type 1} → statement M
-agree-spec = tie.close (tie.spec (search needs) returns (search needs) returns-2 returns-3)
+unfolding rowsAgree
+agree-spec =
+    tie.close
+    (tie.spec
+    (search needs) (λ c. rw (c .before .if1 .taken) (c .row-matrix .ensures))
+    (search needs) (λ c. rw (c .before .if2 .taken) (c .row-map .ensures))
+    (λ c. rw (ne-eqb _ _ (c .before .if1 .left), ne-eqb _ _ (c .if2 .left))))

@@ -5,8 +5,10 @@ use Rattle.replay_maps.proofs.rows.row_map.Tie as tie
 
 returns : tie.Need-returns
 returns c =
+    let c4 = c .before .before .before .before in
+    let c8 = c4 .before .before .before .before in
     let e = c .before .screens-map-row .ensures in
-    rw (← c .before .before .before .before .before .before .before .before .size-at .ensures .0, ← e .refusal, ← e .begins, ← e .long) (c .same-place .ensures)
+    rw (← c8 .size-at .ensures .0, ← e .refusal, ← e .begins, ← e .long) (c .same-place .ensures)
 
 pub row-map-spec : {M : Type 1} → statement M
 row-map-spec = tie.close (tie.spec (search needs) (search needs) (search needs) (search needs) (search needs) (search needs) (search needs) (search needs) returns)

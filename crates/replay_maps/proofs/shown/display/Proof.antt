@@ -5,7 +5,8 @@ use Rattle.replay_maps.proofs.shown.display.Tie as tie
 
 returns : tie.Need-returns
 returns c =
-    let e = c .before .before .before .before .before .display .ensures in
+    let c4 = c .before .before .before .before in
+    let e = c4 .before .display .ensures in
     rw (← e .number, ← e .figure, ← c .before .before .same-word .ensures, ← c .signed .ensures)
 
 pub display-spec : {M : Type 1} → statement M

@@ -1,8 +1,8 @@
 -- The buffers are parts of the pattern.
 use Rattle.replay_words.proofs.Lent.{four-within}
 use native.Mathlib.Omega.{arith}
-use mir.Syntax.{w64}
-use borrow.Author.Needs.{needs, fits-under}
+use borrow.Author.Needs.{needs}
+use Rattle.lists.proofs.Indices.{index-fits}
 use Rattle.replay_meshes.specs.Meshes.{quadratureOf}
 use Rattle.replay_meshes.proofs.quadratures.quadrature_of.Statement.{statement}
 use Rattle.replay_meshes.proofs.quadratures.quadrature_of.Tie as tie
@@ -13,7 +13,16 @@ quadrature-into-requires c κs = search (needs, four-within)
 returns : tie.Need-returns
 unfolding quadratureOf
 returns c =
-    rw (← c .before .before .before .before .before .before .before .before .before .before .before .before .length-at .ensures .0, ← c .before .before .before .before .before .before .before .before .before .before .before .length-at2 .ensures .0, ← c .before .before .before .before .before .before .before .before .before .before .length-at3 .ensures .0, ← c .before .before .before .before .before .before .before .before .before .length-at4 .ensures .0) (c .before .before .before .before .quadrature-into .ensures)
+    let c4 = c .before .before .before .before in
+    let c8 = c4 .before .before .before .before in
+    let c12 = c8 .before .before .before .before in
+    rw (← c12 .length-at .ensures .0, ← c8 .before .before .before .length-at2 .ensures .0, ← c8 .before .before .length-at3 .ensures .0, ← c8 .before .length-at4 .ensures .0) (c4 .quadrature-into .ensures)
 
 pub quadrature-of-spec : {M : Type 1} → statement M
-quadrature-of-spec = tie.close (tie.spec (λ c κs. omega arith) (λ c. fits-under w64 _ 16384 (omega arith) tt) (λ c κs. omega arith) (λ c. fits-under w64 _ 16384 (omega arith) tt) (λ c κs. omega arith) (λ c. fits-under w64 _ 16384 (omega arith) tt) (λ c κs. omega arith) (λ c. omega arith) (λ c. omega arith) (λ c. omega arith) (λ c. omega arith) (λ c. omega arith) (λ c. omega arith) (λ c. omega arith) (λ c. omega arith) (λ c. omega arith) (λ c. omega arith) (λ c. omega arith) (λ c. omega arith) (λ c. fits-under w64 _ 16384 (omega arith) tt) quadrature-into-requires returns)
+quadrature-of-spec =
+    tie.close
+    (tie.spec
+    (λ c κs. omega arith) (λ c. index-fits (omega arith)) (λ c κs. omega arith) (λ c. index-fits (omega arith)) (λ c κs. omega arith)
+    (λ c. index-fits (omega arith)) (λ c κs. omega arith) (λ c. omega arith) (λ c. omega arith) (λ c. omega arith) (λ c. omega arith) (λ c. omega arith)
+    (λ c. omega arith) (λ c. omega arith) (λ c. omega arith) (λ c. omega arith) (λ c. omega arith) (λ c. omega arith) (λ c. omega arith)
+    (λ c. index-fits (omega arith)) quadrature-into-requires returns)

@@ -21,7 +21,9 @@ unfolding sameTo
 loop-holds c = (search needs, refl)
 
 loop-again : tie.Need-loop-again Inv-loop μ-loop
-loop-again c = (search needs, rw (same-more, ← c .before .before .before .before .before .loop .inv .1, ← c .before .before .canonical-bits .ensures, ← c .canonical-bits2 .ensures))
+loop-again c =
+    let c4 = c .before .before .before .before in
+    (search needs, rw (same-more, ← c4 .before .loop .inv .1, ← c .before .before .canonical-bits .ensures, ← c .canonical-bits2 .ensures))
 
 returns : tie.Need-returns Inv-loop μ-loop
 returns c =

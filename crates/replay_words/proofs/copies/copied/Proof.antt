@@ -2,11 +2,11 @@
 use mathlib.Core.Path.{_≡_, refl}
 use Prim.Native.Nat.{_≤_, _<_, _-_}
 use native.Mathlib.Omega.{arith}
-use mir.Syntax.{w64}
-use borrow.Author.Needs.{needs, fits-under}
+use borrow.Author.Needs.{needs}
 use denote.Ref.{now}
 use lib.ListN.{length, take, length-set}
 use lib.Ieee.{nan}
+use Rattle.lists.proofs.Indices.{index-fits}
 use Rattle.replay_words.proofs.Copy.{copy-more, copy-whole}
 use Rattle.replay_words.proofs.copies.copied.Statement.{statement}
 use Rattle.replay_words.proofs.copies.copied.Tie as tie
@@ -37,4 +37,5 @@ returns c =
 pub copied-spec : {M : Type 1} → statement M
 copied-spec =
     tie.close
-    (tie.spec Inv-loop μ-loop loop-holds (λ c. fits-under w64 _ 16384 (omega arith) tt) (search needs) (λ c. fits-under w64 _ 16384 (omega arith) tt) (λ c. omega arith) (λ c. fits-under w64 _ 16384 (omega arith) tt) (λ c. omega arith) loop-again returns)
+    (tie.spec Inv-loop μ-loop loop-holds (λ c. index-fits (omega arith)) (search needs) (λ c. index-fits (omega arith)) (λ c. omega arith) (λ c. index-fits (omega arith))
+    (λ c. omega arith) loop-again returns)

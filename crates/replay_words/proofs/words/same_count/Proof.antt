@@ -1,7 +1,7 @@
 -- Two comparisons.
 use native.Mathlib.Omega.{arith}
-use mir.Syntax.{w64}
-use borrow.Author.Needs.{needs, fits-under}
+use borrow.Author.Needs.{needs}
+use Rattle.lists.proofs.Indices.{index-fits}
 use Rattle.replay_words.specs.Words.{sameCount}
 use Rattle.replay_words.proofs.words.same_count.Statement.{statement}
 use Rattle.replay_words.proofs.words.same_count.Tie as tie
@@ -11,4 +11,4 @@ unfolding sameCount
 returns c = rw (← c .before .same-word .ensures, ← c .same-word2 .ensures)
 
 pub same-count-spec : {M : Type 1} → statement M
-same-count-spec = tie.close (tie.spec (search needs) (λ c. fits-under w64 _ 16384 (omega arith) tt) (search needs) returns)
+same-count-spec = tie.close (tie.spec (search needs) (λ c. index-fits (omega arith)) (search needs) returns)

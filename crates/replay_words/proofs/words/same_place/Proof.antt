@@ -1,7 +1,7 @@
 -- Three comparisons.
 use native.Mathlib.Omega.{arith}
-use mir.Syntax.{w64}
-use borrow.Author.Needs.{needs, fits-under}
+use borrow.Author.Needs.{needs}
+use Rattle.lists.proofs.Indices.{index-fits}
 use Rattle.replay_words.specs.Words.{samePlace}
 use Rattle.replay_words.proofs.words.same_place.Statement.{statement}
 use Rattle.replay_words.proofs.words.same_place.Tie as tie
@@ -11,4 +11,4 @@ unfolding samePlace
 returns c = rw (← c .before .before .same-word .ensures, ← c .before .same-word2 .ensures, ← c .same-word3 .ensures)
 
 pub same-place-spec : {M : Type 1} → statement M
-same-place-spec = tie.close (tie.spec (search needs) (λ c. fits-under w64 _ 16384 (omega arith) tt) (search needs) (λ c. fits-under w64 _ 16384 (omega arith) tt) (search needs) returns)
+same-place-spec = tie.close (tie.spec (search needs) (λ c. index-fits (omega arith)) (search needs) (λ c. index-fits (omega arith)) (search needs) returns)

@@ -1,7 +1,7 @@
 -- Three comparisons.
 use native.Mathlib.Omega.{arith}
-use mir.Syntax.{w64}
-use borrow.Author.Needs.{needs, fits-under}
+use borrow.Author.Needs.{needs}
+use Rattle.lists.proofs.Indices.{index-fits}
 use Rattle.replay_words.specs.Words.{sameTriangle}
 use Rattle.replay_words.proofs.words.same_triangle.Statement.{statement}
 use Rattle.replay_words.proofs.words.same_triangle.Tie as tie
@@ -11,4 +11,6 @@ unfolding sameTriangle
 returns c = rw (← c .same-vector3 .ensures, ← c .before .before .same-vector2 .ensures, ← c .before .before .before .before .same-vector .ensures)
 
 pub same-triangle-spec : {M : Type 1} → statement M
-same-triangle-spec = tie.close (tie.spec (search needs) (search needs) (search needs) (λ c. fits-under w64 _ 16384 (omega arith) tt) (search needs) (search needs) (λ c. fits-under w64 _ 16384 (omega arith) tt) (search needs) returns)
+same-triangle-spec =
+    tie.close
+    (tie.spec (search needs) (search needs) (search needs) (λ c. index-fits (omega arith)) (search needs) (search needs) (λ c. index-fits (omega arith)) (search needs) returns)

@@ -1,7 +1,7 @@
 -- Three comparisons.
 use native.Mathlib.Omega.{arith}
-use mir.Syntax.{w64}
-use borrow.Author.Needs.{needs, fits-under}
+use borrow.Author.Needs.{needs}
+use Rattle.lists.proofs.Indices.{index-fits}
 use Rattle.replay_words.specs.Words.{sameVector}
 use Rattle.replay_words.proofs.words.same_vector.Statement.{statement}
 use Rattle.replay_words.proofs.words.same_vector.Tie as tie
@@ -11,4 +11,7 @@ unfolding sameVector
 returns c = rw (← c .same-number3 .ensures, ← c .before .same-number2 .ensures, ← c .before .before .same-number .ensures)
 
 pub same-vector-spec : {M : Type 1} → statement M
-same-vector-spec = tie.close (tie.spec (λ c. omega arith) (search needs) (λ c. omega arith) (λ c. fits-under w64 _ 16384 (omega arith) tt) (search needs) (λ c. omega arith) (λ c. fits-under w64 _ 16384 (omega arith) tt) (search needs) returns)
+same-vector-spec =
+    tie.close
+    (tie.spec (λ c. omega arith) (search needs) (λ c. omega arith) (λ c. index-fits (omega arith)) (search needs) (λ c. omega arith) (λ c. index-fits (omega arith)) (search needs)
+    returns)

@@ -1,7 +1,7 @@
 -- One test.
 use native.Mathlib.Omega.{arith}
-use mir.Syntax.{w64}
-use borrow.Author.Needs.{needs, fits-under}
+use borrow.Author.Needs.{needs}
+use Rattle.lists.proofs.Indices.{index-fits}
 use Rattle.replay_words.specs.Words.{sameWord}
 use Rattle.replay_words.proofs.words.same_word.Statement.{statement}
 use Rattle.replay_words.proofs.words.same_word.Tie as tie
@@ -11,4 +11,4 @@ unfolding sameWord
 returns c = search needs
 
 pub same-word-spec : {M : Type 1} → statement M
-same-word-spec = tie.close (tie.spec (λ c. fits-under w64 _ 16384 (omega arith) tt) (λ c. omega arith) returns)
+same-word-spec = tie.close (tie.spec (λ c. index-fits (omega arith)) (λ c. omega arith) returns)

@@ -1,8 +1,7 @@
 -- The two cases of the test.
 use native.Mathlib.Omega.{arith}
 use borrow.Author.Tests.{lt-ltb, le-ltb}
-use mir.Syntax.{w64}
-use borrow.Author.Needs.{fits-under}
+use Rattle.lists.proofs.Indices.{index-fits}
 use Rattle.replay_words.specs.Words.{sizeAt}
 use Rattle.replay_words.proofs.words.size_at.Statement.{statement}
 use Rattle.replay_words.proofs.words.size_at.Tie as tie
@@ -16,4 +15,4 @@ unfolding sizeAt
 returns-2 c = (rw (le-ltb _ _ (c .if1 .left)), omega arith)
 
 pub size-at-spec : {M : Type 1} → statement M
-size-at-spec = tie.close (tie.spec (λ c. fits-under w64 _ 16384 (omega arith) tt) (λ c. omega arith) returns returns-2)
+size-at-spec = tie.close (tie.spec (λ c. index-fits (omega arith)) (λ c. omega arith) returns returns-2)

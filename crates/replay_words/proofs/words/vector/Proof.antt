@@ -1,7 +1,7 @@
 -- Three reads.
 use native.Mathlib.Omega.{arith}
-use mir.Syntax.{w64}
-use borrow.Author.Needs.{needs, fits-under}
+use borrow.Author.Needs.{needs}
+use Rattle.lists.proofs.Indices.{index-fits}
 use Rattle.replay_words.specs.Words.{vectorAt}
 use Rattle.replay_words.proofs.words.vector.Statement.{statement}
 use Rattle.replay_words.proofs.words.vector.Tie as tie
@@ -11,4 +11,7 @@ unfolding vectorAt
 returns c = search needs
 
 pub vector-spec : {M : Type 1} → statement M
-vector-spec = tie.close (tie.spec (λ c. fits-under w64 _ 16384 (omega arith) tt) (λ c. omega arith) (λ c. fits-under w64 _ 16384 (omega arith) tt) (λ c. fits-under w64 _ 16384 (omega arith) tt) (λ c. omega arith) (λ c. fits-under w64 _ 16384 (omega arith) tt) (λ c. fits-under w64 _ 16384 (omega arith) tt) (λ c. omega arith) returns)
+vector-spec =
+    tie.close
+    (tie.spec (λ c. index-fits (omega arith)) (λ c. omega arith) (λ c. index-fits (omega arith)) (λ c. index-fits (omega arith)) (λ c. omega arith) (λ c. index-fits (omega arith))
+    (λ c. index-fits (omega arith)) (λ c. omega arith) returns)

@@ -7,13 +7,13 @@ returns : tie.Need-returns
 returns c =
     let a = c .before .before in
     let k = a .triangle-basis-mutual-inductance-block in
-    stopped (k .result) _ _ (rw (k .ensures, a .before .three2 .ensures, a .before .before .before .three .ensures)) (c .if1 .taken)
+    stopped (k .result) _ _ (rw (k .ensures, a .before .triangle2 .ensures, a .before .before .before .triangle .ensures)) (c .if1 .taken)
 
 returns-2 : tie.Need-returns-2
 returns-2 c =
     let a = c .before .before .before in
     let k = a .triangle-basis-mutual-inductance-block in
-    passed (k .result) _ _ (rw (k .ensures, a .before .three2 .ensures, a .before .before .before .three .ensures)) (c .before .if1 .left)
+    passed (k .result) _ _ (rw (k .ensures, a .before .triangle2 .ensures, a .before .before .before .triangle .ensures)) (c .before .if1 .left)
 
 pub screens-mutual-inductance-block-spec : {M : Type 1} → statement M
 screens-mutual-inductance-block-spec = tie.close (tie.spec (λ c κs. tt) (λ c κs. tt) (λ c κs. tt) returns returns-2)

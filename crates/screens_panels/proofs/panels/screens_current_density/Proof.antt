@@ -3,7 +3,7 @@ use Rattle.screens_panels.proofs.panels.screens_current_density.Stateme
 use Rattle.screens_panels.proofs.panels.screens_current_density.Tie as tie
 
 returns : tie.Need-returns
-returns c = rw (c .triangle-current-density .ensures, c .before .before .three .ensures)
+returns c = rw (c .triangle-current-density .ensures, c .before .before .triangle .ensures)
 
 pub screens-current-density-spec : {M : Type 1} → statement M
 screens-current-density-spec = tie.close (tie.spec (λ c κs. tt) (λ c κs. tt) returns)

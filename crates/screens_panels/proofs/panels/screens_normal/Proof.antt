@@ -3,7 +3,7 @@ use Rattle.screens_panels.proofs.panels.screens_normal.Statement.{state
 use Rattle.screens_panels.proofs.panels.screens_normal.Tie as tie
 
 returns : tie.Need-returns
-returns c = rw (c .normal .ensures, c .before .three .ensures)
+returns c = rw (c .normal .ensures, c .before .triangle .ensures)
 
 pub screens-normal-spec : {M : Type 1} → statement M
 screens-normal-spec = tie.close (tie.spec (λ c κs. tt) (λ c κs. tt) returns)
