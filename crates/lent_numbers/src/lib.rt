@@ -28,14 +28,14 @@ pub fn record_numbers(p: UniformTriangle) -> [f64; 34]
     let normal = p.normal;
     let tangent = p.edge_tangent;
     let outward = p.edge_outward;
-    let length = p.edge_length;
+    let edge_length = p.edge_length;
     let max = [p.max_edge];
     let mut out = [0.0; 34];
     put(&nodes, 0, &mut out);
     put(&normal, 9, &mut out);
     put(&tangent, 12, &mut out);
     put(&outward, 21, &mut out);
-    put(&length, 30, &mut out);
+    put(&edge_length, 30, &mut out);
     put(&max, 33, &mut out);
     out
 }

@@ -27,10 +27,10 @@ unfoldable pub addPart : Float → Float → Float → Float → Float
 addPart value h d integral = cond (eq h plusZero && eq d plusZero) value (value ⊕ h ⊗ integral)
 
 unfoldable pub addEdgeOf : Vec → Vec → Vec → Float → Vec → Float → Float → Float
-addEdgeOf node outward tangent length obs d value =
+addEdgeOf node outward tangent extent obs d value =
     let h = place node outward obs in
     let start = place node tangent obs in
-    addPart value h d (lineIntegral start (start ⊕ length) (sqrt (transverseSquared h d)))
+    addPart value h d (lineIntegral start (start ⊕ extent) (sqrt (transverseSquared h d)))
 
 -- ---- the solid angle, of the corners a, b and c
 abbrev pub triple : Vec → Vec → Vec → Vec → Float

@@ -81,13 +81,13 @@ fn roots(q: [f64; MAX_POINTS], g: [f64; MAX_POINTS]) -> [f64; MAX_POINTS]
     out
 }
 
-// The two ends of an edge over the distance from its line: seven times the end, seven times the start.
-fn slopes(start: [f64; MAX_POINTS], length: f64, transverse: [f64; MAX_POINTS]) -> [f64; 14]
-    ensures { λ r. ⌜ ((i : ℕ) → i < maxPoints → (at r i ≡ (at start i ⊕ length) ⊘ at transverse i) × (at r (i + 7) ≡ at start i ⊘ at transverse i)) ⌝ }
+// The two ends of an edge over the distance from its line: seven times the end, seven times the start. The extent is its length.
+fn slopes(start: [f64; MAX_POINTS], extent: f64, transverse: [f64; MAX_POINTS]) -> [f64; 14]
+    ensures { λ r. ⌜ ((i : ℕ) → i < maxPoints → (at r i ≡ (at start i ⊕ extent) ⊘ at transverse i) × (at r (i + 7) ≡ at start i ⊘ at transverse i)) ⌝ }
 {
     let mut out = [0.0; 14];
     for i in 0..MAX_POINTS {
-        out[i] = (start[i] + length) / transverse[i];
+        out[i] = (start[i] + extent) / transverse[i];
         out[i + 7] = start[i] / transverse[i];
     }
     out
@@ -106,17 +106,17 @@ fn integral(start: f64, end: f64, transverse: f64, upper: f64, lower: f64) -> f6
 
 fn integrals(
     start: [f64; MAX_POINTS],
-    length: f64,
+    extent: f64,
     transverse: [f64; MAX_POINTS],
     s: [f64; 14],
 ) -> [f64; MAX_POINTS]
     requires { ⌜ ((i : ℕ) → i < maxPoints
-        → (at s i ≡ asinh ((at start i ⊕ length) ⊘ at transverse i)) × (at s (i + 7) ≡ asinh (at start i ⊘ at transverse i))) ⌝ }
-    ensures { λ r. ⌜ ((i : ℕ) → i < maxPoints → at r i ≡ Potential.lineIntegral (at start i) (at start i ⊕ length) (at transverse i)) ⌝ }
+        → (at s i ≡ asinh ((at start i ⊕ extent) ⊘ at transverse i)) × (at s (i + 7) ≡ asinh (at start i ⊘ at transverse i))) ⌝ }
+    ensures { λ r. ⌜ ((i : ℕ) → i < maxPoints → at r i ≡ Potential.lineIntegral (at start i) (at start i ⊕ extent) (at transverse i)) ⌝ }
 {
     let mut out = [0.0; MAX_POINTS];
     for i in 0..MAX_POINTS {
-        out[i] = integral(start[i], start[i] + length, transverse[i], s[i], s[i + 7]);
+        out[i] = integral(start[i], start[i] + extent, transverse[i], s[i], s[i + 7]);
     }
     out
 }
@@ -151,21 +151,21 @@ fn add_edge(
     node: [f64; 3],
     outward: [f64; 3],
     tangent: [f64; 3],
-    length: f64,
+    extent: f64,
     x: [f64; MAX_POINTS],
     y: [f64; MAX_POINTS],
     z: [f64; MAX_POINTS],
     d: [f64; MAX_POINTS],
     value: [f64; MAX_POINTS],
 ) -> [f64; MAX_POINTS]
-    ensures { λ r. ⌜ ((i : ℕ) → i < maxPoints → at r i ≡ Spec.addEdgeOf node outward tangent length (Spec.point x y z i) (at d i) (at value i)) ⌝ }
+    ensures { λ r. ⌜ ((i : ℕ) → i < maxPoints → at r i ≡ Spec.addEdgeOf node outward tangent extent (Spec.point x y z i) (at d i) (at value i)) ⌝ }
 {
     let h = places(node, outward, x, y, z);
     let start = places(node, tangent, x, y, z);
     let q = squares(h, d);
     let transverse = roots(q, estimates(q));
-    let s = elementary_lanes::asinhs(slopes(start, length, transverse));
-    add_parts(value, h, d, integrals(start, length, transverse, s))
+    let s = elementary_lanes::asinhs(slopes(start, extent, transverse));
+    add_parts(value, h, d, integrals(start, extent, transverse, s))
 }
 
 // ---- the solid angle's part
@@ -362,14 +362,14 @@ pub fn scalar_potentials(
     let nodes = p.nodes;
     let outward = p.edge_outward;
     let tangent = p.edge_tangent;
-    let length = p.edge_length;
+    let edge_length = p.edge_length;
     let normal = p.normal;
     let d = distances_from_plane(vector(nodes, 0), normal, x, y, z);
     let first = add_edge(
         vector(nodes, 0),
         vector(outward, 0),
         vector(tangent, 0),
-        length[0],
+        edge_length[0],
         x,
         y,
         z,
@@ -380,7 +380,7 @@ pub fn scalar_potentials(
         vector(nodes, 1),
         vector(outward, 1),
         vector(tangent, 1),
-        length[1],
+        edge_length[1],
         x,
         y,
         z,
@@ -391,7 +391,7 @@ pub fn scalar_potentials(
         vector(nodes, 2),
         vector(outward, 2),
         vector(tangent, 2),
-        length[2],
+        edge_length[2],
         x,
         y,
         z,

@@ -80,12 +80,12 @@ pub fn panel_record(f: &[f64; 2048], w: &[u64; 2048]) -> bool
     let normal = p.normal;
     let tangent = p.edge_tangent;
     let outward = p.edge_outward;
-    let length = p.edge_length;
+    let edge_length = p.edge_length;
     let a = same_nine(nodes, w, 9);
     let b = same_vector(normal, w, 18);
     let c = same_nine(tangent, w, 21);
     let d = same_nine(outward, w, 30);
-    let e = same_vector(length, w, 39);
+    let e = same_vector(edge_length, w, 39);
     let g = same_number(p.max_edge, w, 42);
     (a) & ((b) & ((c) & ((d) & ((e) & (g)))))
 }

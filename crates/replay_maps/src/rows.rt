@@ -14,15 +14,15 @@ pub fn row_matrix(f: &[f64; 2048], w: &[u64; 2048]) -> bool
     let all = &f[..];
     let matrix = &all[0..size];
     let mut offset = 0usize;
-    let mut length = 0usize;
+    let mut count = 0usize;
     let r = screens_assembly::assembly::screens_matrix_row(
         matrix,
         n,
         node,
         &mut offset,
-        &mut length,
+        &mut count,
     );
-    same_place(r, offset, length, w, 3)
+    same_place(r, offset, count, w, 3)
 }
 
 pub fn row_map(f: &[f64; 2048], w: &[u64; 2048]) -> bool
@@ -34,9 +34,9 @@ pub fn row_map(f: &[f64; 2048], w: &[u64; 2048]) -> bool
     let all = &f[..];
     let map = &all[0..size];
     let mut offset = 0usize;
-    let mut length = 0usize;
-    let r = screens_assembly::assembly::screens_map_row(map, n, node, &mut offset, &mut length);
-    same_place(r, offset, length, w, 3)
+    let mut count = 0usize;
+    let r = screens_assembly::assembly::screens_map_row(map, n, node, &mut offset, &mut count);
+    same_place(r, offset, count, w, 3)
 }
 
 // By the kind's number.
