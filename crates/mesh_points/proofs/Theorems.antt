@@ -1,7 +1,5 @@
 -- The call's number by its conditions: by cases on the rule it is the first of one list, 12 before the mesh's checks and 6 behind them, and the laws of a call that tests its mesh do the rest.
 use mathlib.Core.Path.{_≡_, refl, sym, subst}
-use mathlib.Core.Logic.{_↔_}
-use mathlib.Core.Bool.{false}
 use mathlib.Core.List.{List, [], _∷_, _++_}
 use Prim.Native.Nat.{ℕ, _*_}
 use Rattle.tri.specs.Quadrature.{quadratureRule, NoSuchRule, isUnknown}
@@ -10,17 +8,11 @@ use Rattle.tri.specs.declared.quadrature.Rule.the-variants.{Known, Unknown}
 use Rattle.refusal.specs.Numbers.{noSuchChoice, outputLength}
 use Rattle.refusal.specs.Checks.{Check, check, first}
 use Rattle.refusal.proofs.Checks.{applies-first}
-use Rattle.refusal.proofs.Tests.{on, or-off, differ-off}
-use Rattle.lists.proofs.Columns.{columns-off}
+use Rattle.refusal.proofs.Tests.{on}
 use Rattle.mesh.specs.Mesh.{Mesh, ntri, meshChecks, maxNodes, maxPanels}
 use Rattle.mesh.proofs.Calls.{call-before, call-behind, call-area, call-done, call-of-mesh, ruleChecks, rule-passed, rule-stopped}
 use Rattle.mesh_points.specs.QuadraturePoints.{pointColumnsDiffer, pointsRefusal, ruleRefusal, pointsIn, PointColumnsDue, PointsNumbered}
-
-pub point-columns-off : (n a b c d : ℕ) → (pointColumnsDiffer n a b c d ≡ false) ↔ PointColumnsDue n a b c d
-point-columns-off n a b c d = (
-  (λ e. let o = or-off _ _ e in record { coordinates = columns-off n a b c .0 (o .0); weights = differ-off d n .0 (o .1) }),
-  λ h. rw (columns-off n a b c .1 (h .coordinates), differ-off d n .1 (h .weights)),
-)
+use Rattle.mesh_points.proofs.Ready.{point-columns-off}
 
 module _ (m : Mesh) (lx ly lz lw : ℕ) where
   -- 6, behind the mesh
