@@ -2,8 +2,8 @@
 # usage: beside.sh STATE [RULES [SIZES [ROUNDS]]]
 # Fresh matrices and moves of whole screens, this state beside an earlier one: STATE is a commit, or a folder that has its
 # target/staticlib/libscreens.a already. Both archives are timed in turns, ROUNDS (5) times each, for the digits of RULES (135) and the
-# first SIZES (3) of 300, 1,000 and 2,000 nodes. Prints medians of seconds of thread time, their ratio (this state over the earlier) and
-# the spread of the times that went into it.
+# first SIZES (3) of 300, 1,000, 2,000 and 4,096 nodes. Prints medians of seconds of thread time, their ratio (this state over the
+# earlier) and the spread of the times that went into it.
 set -eu -o pipefail
 here=$(cd "$(dirname "$0")" && pwd)
 state=${1:?usage: beside.sh STATE [RULES [SIZES [ROUNDS]]]}

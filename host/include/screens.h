@@ -205,16 +205,17 @@ uint32_t screens_mesh_quadrature_points(uint32_t rule, const double *x, size_t n
     const double *z, size_t nz, const size_t *t0, size_t nt0, const size_t *t1, size_t nt1, const size_t *t2,
     size_t nt2, double *px, size_t npx, double *py, size_t npy, double *pz, size_t npz, double *pw, size_t npw);
 
-/* The inductance matrix (henries) under rule 1 to 5, row by row: n * n places for n nodes. Refuses with 12, 1, 2,
-   11, 3, 4, 6. */
+/* The inductance matrix (henries) under rule 1 to 5, row by row: n * n places for n nodes. Cell (b, a) below the
+   diagonal is a copy of cell (a, b), so the matrix is symmetric in every bit. Refuses with 12, 1, 2, 11, 3, 4, 6. */
 uint32_t screens_mesh_inductance_matrix(uint32_t rule, const double *x, size_t nx, const double *y, size_t ny,
     const double *z, size_t nz, const size_t *t0, size_t nt0, const size_t *t1, size_t nt1, const size_t *t2,
     size_t nt2, double *out, size_t n);
 
 /* Moves a node to the place (px, py, pz) (metres): writes its coordinates, renews the cells of the matrix (n * n
-   places) whose row or column is of a node of its panels, and counts them. A matrix that was the mesh's under this
-   rule is then the moved mesh's, bit for bit. Refuses with 12, 1, 2, 11, 3, 4, 6, 13, then 4 on the moved mesh;
-   columns and matrix are then as they were. */
+   places) whose row or column is of a node of its panels, and counts them. These cells become the moved mesh's and
+   all others keep their numbers, so a symmetric matrix stays symmetric; a matrix that was the mesh's under this rule
+   is then the moved mesh's, bit for bit. Refuses with 12, 1, 2, 11, 3, 4, 6, 13, then 4 on the moved mesh; columns
+   and matrix are then as they were. */
 uint32_t screens_move_node(uint32_t rule, double *x, size_t nx, double *y, size_t ny, double *z, size_t nz,
     const size_t *t0, size_t nt0, const size_t *t1, size_t nt1, const size_t *t2, size_t nt2, double *matrix,
     size_t n, size_t node, double px, double py, double pz, size_t *count);

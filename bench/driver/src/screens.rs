@@ -1,4 +1,5 @@
-//! Fresh matrices and moves of whole screens: ours beside the original, every cell compared in bits.
+//! Fresh matrices and moves of whole screens: ours beside the original, every cell on and above the diagonal compared in bits, and
+//! every cell below it with the one that it is a copy of.
 use crate::loops::{Columns, Matrix};
 use crate::now;
 use crate::rng::Rng;
@@ -149,11 +150,22 @@ impl Screen {
     }
 }
 
+/// In bits, every NaN as one number.
+fn unequal(a: f64, b: f64) -> bool {
+    a.to_bits() != b.to_bits() && !(a.is_nan() && b.is_nan())
+}
+
 fn differing(a: &[f64], b: &[f64]) -> usize {
-    a.iter()
-        .zip(b)
-        .filter(|(a, b)| a.to_bits() != b.to_bits() && !(a.is_nan() && b.is_nan()))
-        .count()
+    a.iter().zip(b).filter(|(a, b)| unequal(**a, **b)).count()
+}
+
+/// How many of our n by n cells are not those due: the original's on and above the diagonal, below it the copy of ours above.
+fn cells_differing(ours: &[f64], original: &[f64], n: usize) -> usize {
+    let due = |row: usize, column: usize| match column < row {
+        true => ours[column * n + row],
+        false => original[row * n + column],
+    };
+    (0..n * n).filter(|k| unequal(ours[*k], due(k / n, k % n))).count()
 }
 
 fn timed(run: impl FnOnce()) -> f64 {
@@ -162,7 +174,7 @@ fn timed(run: impl FnOnce()) -> f64 {
     now() - start
 }
 
-const SIZES: [(usize, usize); 3] = [(20, 15), (40, 25), (50, 40)];
+const SIZES: [(usize, usize); 4] = [(20, 15), (40, 25), (50, 40), (64, 64)];
 
 /// The middle of some times.
 fn median(times: &mut [f64]) -> f64 {
@@ -189,7 +201,7 @@ fn measure(screen: &Screen, rule: u32, builds: [Matrix; 2], node: usize, rounds:
         times[0].push(timed(|| screen.ours(rule, &mut ours)));
         for (run, list) in builds.into_iter().zip([1, 2]) {
             times[list].push(timed(|| screen.original(run, rule, &mut due)));
-            differ += differing(&ours, &due);
+            differ += cells_differing(&ours, &due, n);
         }
         let mut moved = screen.clone();
         let [x, y, z] = moved.nodes.each_ref().map(|c| c[node]);
@@ -197,7 +209,7 @@ fn measure(screen: &Screen, rule: u32, builds: [Matrix; 2], node: usize, rounds:
             moved.move_node(rule, &mut ours, node, [x + 0.1, y - 0.1, z + 0.05]);
         }));
         moved.original(builds[1], rule, &mut due);
-        differ += differing(&ours, &due);
+        differ += cells_differing(&ours, &due, n);
     }
     let [ours, portable, native, moved] = times.each_mut().map(|list| median(list));
     let spread = times[..3]
@@ -309,8 +321,8 @@ pub fn ours(rules: &[u32], sizes: usize) {
     }
 }
 
-/// Runs of moves of single nodes from a fresh matrix, each compared in every cell, coordinate and count with the original's
-/// fresh matrix of the mesh as it then stands.
+/// Runs of moves of single nodes from a fresh matrix; after each all cells, coordinates and the count are compared, the cells as
+/// above with the original's fresh matrix of the mesh as it then stands.
 pub fn moves(native: Matrix, each: usize) {
     for ((width, height), bent, rule) in [
         (SIZES[0], false, 3),
@@ -338,7 +350,7 @@ pub fn moves(native: Matrix, each: usize) {
                 differ += differing(a, b);
             }
             expected.original(native, rule, &mut due);
-            differ += differing(&matrix, &due);
+            differ += cells_differing(&matrix, &due, n);
         }
         println!(
             "{n} nodes, {}, rule {rule}: {each} moves in a row, {differ} differ",

@@ -1,17 +1,15 @@
 -- Seventeen numbers written at a panel's place are read back, and those of the panels before it stay; so the array holds one panel more, and a panel read from it is the panel's own numbers.
-use mathlib.Core.Path.{_≡_, refl, sym, ap, _∙_, subst}
+use mathlib.Core.Path.{_≡_, sym, ap, _∙_, subst}
 use mathlib.Core.Logic.{_⊎_, inl, inr}
 use mathlib.Core.List.{List, [], _∷_}
-use Prim.Native.Nat.{ℕ, zero, suc, _+_, _*_, _<_, _≤_}
-use native.Mathlib.Nat.{not-suc-le-zero, eq-or-lt-of-le}
-use native.Mathlib.Numerals.{add-one}
+use Prim.Native.Nat.{ℕ, _+_, _*_, _<_, _≤_}
+use native.Mathlib.Nat.{eq-or-lt-of-le}
 use native.Mathlib.Omega.{arith}
-use lib.ListN.{length, set}
-use lib.Seq.{getD-set-same, getD-set-other}
+use lib.ListN.{length}
 use lib.Ieee.{Float, nan}
 use Rattle.binary64.specs.Binary64.{at}
 use Rattle.lists.specs.Filling.{run}
-use Rattle.lists.proofs.Filling.{run-start, run-length, run-turn}
+use Rattle.lists.proofs.Runs.{run-before, run-inside}
 use Rattle.mesh.specs.Mesh.{Mesh, triangleNodes}
 use Rattle.tri.specs.Mapping.{Tri}
 use Rattle.pair.specs.declared.Panel.{Panel}
@@ -23,26 +21,6 @@ use Rattle.pair.specs.Pair.{panelNumbers, sourceNumbers, Known, KnownSource}
 use Rattle.pair.proofs.Numbers.{panel-known, source-known, mesh-corners}
 use Rattle.cached_panels.specs.Cache.{flat, Cached, panelNumberCount}
 
--- ---- reading a run
-module _ (held : List Float) (a c : ℕ) (h : ℕ → Float) (room : a + c ≤ length held) where
-  turn : (k : ℕ) → suc k ≤ c → run held a c h (suc k) ≡ set (run held a c h k) (a + k) (h k)
-  turn k l = ap (run held a c h) (sym (add-one k)) ∙ sym (run-turn held a c h k (h k) room l refl)
-
-  run-before : (k i : ℕ) → k ≤ c → i < a → at (run held a c h k) i ≡ at held i
-  run-before zero i l b = ap (λ (r : List Float). at r i) (sym (run-start held a c h))
-  run-before (suc k) i l b =
-      ap (λ (r : List Float). at r i) (turn k l)
-      ∙ getD-set-other (run held a c h k) (a + k) i (h k) nan (λ q. absurd (omega (arith, b, q)))
-      ∙ run-before k i (omega arith) b
-
-  run-inside : (k i : ℕ) → k ≤ c → i < k → at (run held a c h k) (a + i) ≡ h i
-  run-inside zero i l b = absurd (not-suc-le-zero b)
-  run-inside (suc k) i l b = ap (λ (r : List Float). at r (a + i)) (turn k l) ∙ go (λ s. run-inside k i (omega arith) s) (eq-or-lt-of-le (omega (arith, b)))
-    where
-      go : (i < k → at (run held a c h k) (a + i) ≡ h i) → (i ≡ k) ⊎ (i < k) → at (set (run held a c h k) (a + k) (h k)) (a + i) ≡ h i
-      go f (inl z) = rw z (getD-set-same (run held a c h k) (a + k) (h k) nan (rw (run-length held a c h k room (omega arith)) (omega arith)))
-      go f (inr z) = getD-set-other (run held a c h k) (a + k) (a + i) (h k) nan (λ q. absurd (omega (arith, z, q))) ∙ f z
-
 -- ---- one panel more
 pub cache-more : (m : Mesh) (cache new v : List Float) (j : ℕ)
     → j * panelNumberCount + panelNumberCount ≤ length cache
@@ -53,8 +31,8 @@ pub cache-more : (m : Mesh) (cache new v : List Float) (j : ℕ)
 cache-more m cache new v j room e w k = λ i b o l. ap (λ (r : List Float). at r (i * panelNumberCount + o)) w ∙ go i o l (eq-or-lt-of-le (omega (arith, b)))
   where
     go : (i o : ℕ) → o < panelNumberCount → (i ≡ j) ⊎ (i < j) → at (run cache (j * panelNumberCount) panelNumberCount (at v) panelNumberCount) (i * panelNumberCount + o) ≡ at (flat (panelNumbers (triangleNodes m i))) o
-    go i o l (inl z) = rw z (run-inside cache (j * panelNumberCount) panelNumberCount (at v) room panelNumberCount o (omega arith) l ∙ ap (λ (r : List Float). at r o) e)
-    go i o l (inr z) = run-before cache (j * panelNumberCount) panelNumberCount (at v) room panelNumberCount (i * panelNumberCount + o) (omega arith) (omega (arith, z, l)) ∙ k i z o l
+    go i o l (inl z) = rw z (run-inside nan cache (j * panelNumberCount) panelNumberCount (at v) room panelNumberCount o (omega arith) l ∙ ap (λ (r : List Float). at r o) e)
+    go i o l (inr z) = run-before nan cache (j * panelNumberCount) panelNumberCount (at v) room panelNumberCount (i * panelNumberCount + o) (omega arith) (omega (arith, z, l)) ∙ k i z o l
 
 -- ---- a panel read back
 pub cached-numbers : (m : Mesh) (cache : List Float) (p j : ℕ) (t : Tri) (corners lo hi a b c densities : List Float)

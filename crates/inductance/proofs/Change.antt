@@ -14,7 +14,9 @@ use Rattle.refusal.proofs.Tests.{or-off}
 use Rattle.scatter.specs.Entries.{same, blockEntries, contributions, square}
 use Rattle.scatter.specs.Renewal.{renewed}
 use Rattle.scatter.proofs.Misses.{contributions-append, source-misses, target-misses, both-miss}
+use Rattle.scatter.specs.Mirror.{mirrored}
 use Rattle.scatter.proofs.Renewals.{renewed-from}
+use Rattle.scatter.proofs.Mirror.{mirrored-alike}
 use Rattle.pair_loops.specs.Additions.{Block, pairEntries, targetEntries, sourceEntries, entries}
 use Rattle.inductance.specs.Change.{Changed, Apart}
 
@@ -97,10 +99,16 @@ module _ (f : Block) (changed : ℕ → Bool) (m m′ : Mesh) (d : Changed chang
     contributions-kept : contributions (entries f m′) a b ≡ contributions (entries f m) a b
     contributions-kept = ap (λ (k : ℕ). contributions (sourceEntries f m′ 0 k) a b) count-same ∙ sources-same (ntri m) 0 (omega arith)
 
-  -- any cells that are a function of their contributions: the old mesh's, renewed where a row or a column is in r, are the new mesh's, if every node outside r is apart
+  -- mirrored cells that are a function of their contributions: the old mesh's, renewed where a row or a column is in r, are the new mesh's, if every node outside r is apart
   pub renewed-by : (sum : List Float → Float) (r : ℕ → Bool) → ((a : ℕ) → r a ≡ false → Apart m changed a) → (n : ℕ)
-      → renewed r (λ a b. sum (contributions (entries f m′) a b)) n (square n (λ a b. sum (contributions (entries f m) a b)))
-      ≡ square n (λ a b. sum (contributions (entries f m′) a b))
+      → renewed r (mirrored (λ a b. sum (contributions (entries f m′) a b))) n (square n (mirrored (λ a b. sum (contributions (entries f m) a b))))
+      ≡ square n (mirrored (λ a b. sum (contributions (entries f m′) a b)))
   renewed-by sum r out n =
-      renewed-from r (λ a b. sum (contributions (entries f m) a b)) (λ a b. sum (contributions (entries f m′) a b)) n
-      (λ a b h. let w = or-off (r a) (r b) h in ap sum (contributions-kept a b (out a (w .0)) (out b (w .1))))
+      let g : ℕ → ℕ → Float = λ a b. sum (contributions (entries f m) a b) in
+      let g′ : ℕ → ℕ → Float = λ a b. sum (contributions (entries f m′) a b) in
+      renewed-from r (mirrored g) (mirrored g′) n
+      (λ a b h.
+      let w = or-off (r a) (r b) h in
+      let p = out a (w .0) in
+      let q = out b (w .1) in
+      mirrored-alike g g′ a b (ap sum (contributions-kept a b p q)) (ap sum (contributions-kept b a q p)))

@@ -1,4 +1,5 @@
 pub mod Within
+pub mod Mirror
 pub mod Renewing
 pub mod Ready
 pub mod Rules

@@ -18,6 +18,7 @@ use Rattle.coupling.specs.Block.{mutualInductanceBlock}
 use Rattle.pair_loops.specs.Ready.{Ready}
 use Rattle.inductance.specs.Matrix.{cell, matrix}
 use Rattle.inductance.specs.Assembly.{AssembledUnder, sizeChecks, sizedRefusal}
+use Rattle.inductance.proofs.Mirror.{left-symmetric}
 
 -- every node is marked
 abbrev pub allMarks : List Bool
@@ -49,4 +50,5 @@ module _ (m : Mesh) (out : List Float) (r : ℕ) (e : r ≡ sizedRefusal m (leng
   assembled kind h =
       let g = cell (mutualInductanceBlock kind) m in
       let f = renewed-whole (marked allMarks) g (nnode m) out (λ k l. getD-replicate maxNodes k true false (lt-of-lt-of-le l (ready .sized .small))) in
-      record { refusal = sym z ∙ e; cells = h ∙ f ∙ sym (after-done 0 (square (nnode m) g) out refl) }
+      let c = h ∙ f ∙ sym (after-done 0 (square (nnode m) g) out refl) in
+      record { refusal = sym z ∙ e; cells = c; symmetric = left-symmetric (mutualInductanceBlock kind) m out 0 _ c }

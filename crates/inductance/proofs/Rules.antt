@@ -14,6 +14,7 @@ use Rattle.refusal.specs.Checks.{first, after}
 use Rattle.refusal.proofs.Checks.{after-refused}
 use Rattle.mesh.specs.Mesh.{Mesh}
 use Rattle.inductance.specs.Matrix.{matrix}
+use Rattle.inductance.proofs.Mirror.{left-symmetric}
 use Rattle.inductance.specs.Assembly.{blockUnder, matrixRefusal, sizedRefusal, Assembled, AssembledUnder}
 
 abbrev Outcome : Rule → Mesh → List Float → ℕ → List Float → Type 0
@@ -30,7 +31,7 @@ unknown m out = (refl, sym (after-refused noSuchChoice _ out (λ e. suc-ne-zero 
 outcome : (number : ℕ) (rule : Rule) (m : Mesh) (out : List Float) (r : ℕ) (out' : List Float) → quadratureRule number ≡ rule → Outcome rule m out r out' → Assembled number m out r out'
 outcome number rule m out r out' e w =
     let v = subst (λ (x : Rule). Outcome x m out r out') (sym e) w in
-    record { refusal = v .0; cells = v .1 }
+    record { refusal = v .0; cells = v .1; symmetric = left-symmetric (blockUnder (quadratureRule number)) m out r out' (v .1) }
 
 pub assembled-known : (number : ℕ) (kind : QuadratureKind) (m : Mesh) (out : List Float) (r : ℕ) (out' : List Float)
     → quadratureRule number ≡ Known kind → AssembledUnder kind m out r out' → Assembled number m out r out'

@@ -18,6 +18,7 @@ use Rattle.mesh.specs.Conditions.{Refused4, Accepted, MeshNumbered}
 use Rattle.coupling.specs.Block.{mutualInductanceBlock}
 use Rattle.pair_loops.specs.Additions.{Block}
 use Rattle.scatter.specs.Renewal.{marked, renewed}
+use Rattle.scatter.specs.Mirror.{Symmetric}
 use Rattle.inductance.specs.Matrix.{cell, matrix}
 
 -- the block under a rule; without a rule the call is refused and no block is asked for
@@ -48,12 +49,14 @@ pub record Numbered (number : ℕ) (m : Mesh) (size r : ℕ) : Type 0 where
   pub is-6 : (r ≡ outputLength) ↔ ((NoSuchRule number → ⊥) × Accepted maxNodes maxPanels m × (size ≡ nnode m * nnode m → ⊥))
   pub is-0 : (r ≡ 0) ↔ ((NoSuchRule number → ⊥) × Accepted maxNodes maxPanels m × (size ≡ nnode m * nnode m))
 
--- what the call answers and leaves, for a rule by its number
+-- what the call answers and leaves, for a rule by its number; symmetric: a call that is done leaves (a, b) and (b, a) alike
 pub record Assembled (number : ℕ) (m : Mesh) (out : List Float) (r : ℕ) (out' : List Float) : Type 0 where
   pub refusal : r ≡ matrixRefusal (quadratureRule number) m (length out)
   pub cells : out' ≡ after r (matrix (blockUnder (quadratureRule number)) m) out
+  pub symmetric : r ≡ 0 → Symmetric (nnode m) out'
 
 -- the same for a rule that there is
 pub record AssembledUnder (kind : QuadratureKind) (m : Mesh) (out : List Float) (r : ℕ) (out' : List Float) : Type 0 where
   pub refusal : r ≡ sizedRefusal m (length out)
   pub cells : out' ≡ after r (matrix (mutualInductanceBlock kind) m) out
+  pub symmetric : r ≡ 0 → Symmetric (nnode m) out'

@@ -1,5 +1,5 @@
 // inductance.rs: the nodal inductance matrix of a triangle mesh, and the cells of marked nodes worked out
-// anew. The same loops serve both.
+// anew. The same loops serve both; cells below the diagonal are copies of those above.
 ghost use mathlib.Core.Path.{_≡_};
 ghost use Rattle.lists.specs.Lent.{passed, left};
 ghost use Rattle.mesh.specs.Mesh.{passedMesh, lentMesh};
@@ -29,6 +29,7 @@ pub fn renew(
     scatter::link_marked(&flags, t0.len(), &mut links);
     scatter::clear_named(out, x.len(), marks);
     pair_loops::add_all(kind, x, y, z, t0, t1, t2, marks, &flags, &links, out);
+    scatter::copy_below(out, x.len(), marks);
 }
 
 // The number of a call that fills a matrix of the mesh's nodes, 0 if it is done.

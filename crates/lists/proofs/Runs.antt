@@ -1,13 +1,16 @@
 -- A column in a loop that writes h 0, h 1, … into it from index a on, c numbers in all, and where it stands after k turns.
--- A loop over one column or several then says of each in one line that it has begun, is a turn further, or is done.
+-- A loop over one column or several then says of each in one line that it has begun, is a turn further, or is done; and each element of such a column is read back.
 use mathlib.Core.Path.{_≡_, refl, sym, ap, _∙_}
+use mathlib.Core.Logic.{_⊎_, inl, inr}
 use mathlib.Core.List.{List}
-use Prim.Native.Nat.{ℕ, _+_, _<_, _≤_}
-use native.Mathlib.Nat.{zero-add}
+use Prim.Native.Nat.{ℕ, zero, suc, _+_, _<_, _≤_}
+use native.Mathlib.Nat.{zero-add, not-suc-le-zero, eq-or-lt-of-le}
+use native.Mathlib.Numerals.{add-one}
 use native.Mathlib.Omega.{arith}
-use lib.ListN.{length, set, length-set}
+use lib.ListN.{length, getD, set, length-set}
+use lib.Seq.{getD-set-same, getD-set-other}
 use Rattle.lists.specs.Filling.{tabulate, run}
-use Rattle.lists.proofs.Filling.{run-start, run-next, column-end}
+use Rattle.lists.proofs.Filling.{run-start, run-length, run-turn, run-next, column-end}
 
 -- held before the loop, now after k turns
 pub record RunTo {A : Type 0} (held : List A) (a c : ℕ) (h : ℕ → A) (k : ℕ) (now : List A) : Type 0 where
@@ -43,3 +46,29 @@ module _ {A : Type 0} {held : List A} {c : ℕ} {h : ℕ → A} where
 
   pub filled-whole : {k : ℕ} {now : List A} → RunTo held 0 c h k now → length held ≡ c → c ≤ k → now ≡ tabulate c h
   filled-whole {k} {now} r e l = let z : k ≡ c = omega (arith, r .below) in column-end held now c h k e z (r .written)
+
+-- ---- an element after k turns: written, or what was held before the run and behind it
+module _ {A : Type 0} (d : A) (held : List A) (a c : ℕ) (h : ℕ → A) (room : a + c ≤ length held) where
+  turn : (k : ℕ) → suc k ≤ c → run held a c h (suc k) ≡ set (run held a c h k) (a + k) (h k)
+  turn k l = ap (run held a c h) (sym (add-one k)) ∙ sym (run-turn held a c h k (h k) room l refl)
+
+  elsewhere : (k i : ℕ) → k ≤ c → ((j : ℕ) → j < k → i ≡ a + j → ⊥) → getD (run held a c h k) i d ≡ getD held i d
+  elsewhere zero i l b = ap (λ (r : List A). getD r i d) (sym (run-start held a c h))
+  elsewhere (suc k) i l b =
+      ap (λ (r : List A). getD r i d) (turn k l)
+      ∙ getD-set-other (run held a c h k) (a + k) i (h k) d (b k (omega arith))
+      ∙ elsewhere k i (omega arith) (λ j m. b j (omega (arith, m)))
+
+  pub run-before : (k i : ℕ) → k ≤ c → i < a → getD (run held a c h k) i d ≡ getD held i d
+  run-before k i l b = elsewhere k i l (λ j m q. absurd (omega (arith, b, q)))
+
+  pub run-behind : (k i : ℕ) → k ≤ c → a + k ≤ i → getD (run held a c h k) i d ≡ getD held i d
+  run-behind k i l b = elsewhere k i l (λ j m q. absurd (omega (arith, b, m, q)))
+
+  pub run-inside : (k i : ℕ) → k ≤ c → i < k → getD (run held a c h k) (a + i) d ≡ h i
+  run-inside zero i l b = absurd (not-suc-le-zero b)
+  run-inside (suc k) i l b = ap (λ (r : List A). getD r (a + i) d) (turn k l) ∙ go (λ s. run-inside k i (omega arith) s) (eq-or-lt-of-le (omega (arith, b)))
+    where
+      go : (i < k → getD (run held a c h k) (a + i) d ≡ h i) → (i ≡ k) ⊎ (i < k) → getD (set (run held a c h k) (a + k) (h k)) (a + i) d ≡ h i
+      go f (inl z) = rw z (getD-set-same (run held a c h k) (a + k) (h k) d (rw (run-length held a c h k room (omega arith)) (omega arith)))
+      go f (inr z) = getD-set-other (run held a c h k) (a + k) (a + i) (h k) d (λ q. absurd (omega (arith, z, q))) ∙ f z

@@ -13,11 +13,12 @@ use Rattle.lists.proofs.Counting.{none-at, count-alike}
 use Rattle.mesh.specs.Mesh.{Mesh, nnode, ntri, maxNodes}
 use Rattle.scatter.specs.Entries.{same, contributions, cellSum, square}
 use Rattle.scatter.specs.Renewal.{marked, renewed}
+use Rattle.scatter.specs.Mirror.{mirrored}
 use Rattle.scatter.proofs.Renewals.{renewed-same}
 use Rattle.scatter.specs.Flags.{IndicesBelow}
 use Rattle.pair_loops.specs.Additions.{Block, entries}
 use Rattle.pair_loops.specs.Ready.{Ready}
-use Rattle.inductance.specs.Matrix.{cell, matrix}
+use Rattle.inductance.specs.Matrix.{summedCell, cell, matrix}
 use Rattle.inductance.specs.Change.{Changed, Apart}
 use Rattle.inductance.proofs.Change.{renewed-by}
 use Rattle.node_ring.proofs.Marks.{none-marked}
@@ -33,7 +34,7 @@ move-changes m v x y z = record { t0-same = refl; t1-same = refl; t2-same = refl
 
 -- the cells and the fresh matrix of another sum than the rounded one
 abbrev pub cellBy : (List Float → Float) → Block → Mesh → ℕ → ℕ → Float
-cellBy sum f m a b = sum (contributions (entries f m) a b)
+cellBy sum f m = mirrored (λ a b. sum (contributions (entries f m) a b))
 
 abbrev pub matrixBy : (List Float → Float) → Block → Mesh → List Float
 matrixBy sum f m = square (nnode m) (cellBy sum f m)
@@ -46,7 +47,7 @@ module _ (f : Block) (m : Mesh) (v : ℕ) (x y z : Float) where
       ∙ ap (λ (n : ℕ). square n (cellBy sum f (moved m v x y z))) (sym (length-set (m .xs) v x))
 
   pub move-fresh : renewed (ring m (same v)) (cell f (moved m v x y z)) (nnode m) (matrix f m) ≡ matrix f (moved m v x y z)
-  unfolding cell matrix
+  unfolding summedCell cell matrix
   move-fresh = move-fresh-by cellSum
 
 -- ---- what the functions ask

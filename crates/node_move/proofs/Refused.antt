@@ -21,6 +21,8 @@ use Rattle.inductance.specs.Matrix.{cell, matrix}
 use Rattle.inductance.specs.Assembly.{blockUnder}
 use Rattle.scatter.specs.Entries.{same}
 use Rattle.scatter.specs.Renewal.{renewed}
+use Rattle.scatter.specs.Mirror.{Symmetric}
+use Rattle.scatter.proofs.Mirror.{renewed-symmetric}
 use Rattle.node_move.specs.Move.{moved, ring, placeChecks, placeRefusal, moveRefusal, Done, Premise, MoveClaim, MovedBy, MovedUnder, MoveReady}
 use Rattle.node_move.proofs.Numbers.{place-done}
 
@@ -57,17 +59,19 @@ module _ (Choice : Type 0) (cellOf : Mesh → ℕ → ℕ → Float) (matrixOf :
     refused = λ _. (refl, refl, refl);
     accepted = λ q. absurd (h q);
     fresh = λ q. absurd (h q);
+    symmetric = λ q. absurd (h q);
     demand = λ p q. absurd (h (e ∙ due p (ap length q ∙ sized)));
     renews = λ p l. absurd (h (e ∙ due p l));
   }
 
-  -- where a fresh matrix, renewed, is the moved mesh's
+  -- where a fresh matrix, renewed, is the moved mesh's, and cells (a, b) and (b, a) are alike
   pub claim-done : (count : ℕ) (m′ : Mesh) (new : List Float)
+      → ((a b : ℕ) → cellOf (moved m v x y z) a b ≡ cellOf (moved m v x y z) b a)
       → renewed (ring m (same v)) (cellOf (moved m v x y z)) (nnode m) (matrixOf m) ≡ matrixOf (moved m v x y z)
       → 0 ≡ refusal
       → Done cellOf m old v x y z count m′ new
       → MoveClaim Choice cellOf matrixOf refusal m old v x y z 0 count m′ new
-  claim-done count m′ new law e d =
+  claim-done count m′ new turned law e d =
       let left : old ≡ matrixOf m → new ≡ matrixOf (moved m v x y z) =
       λ h. d .cells ∙ ap (λ (l : List Float). renewed (ring m (same v)) (cellOf (moved m v x y z)) (nnode m) l) h ∙ law in
       record {
@@ -75,6 +79,7 @@ module _ (Choice : Type 0) (cellOf : Mesh → ℕ → ℕ → Float) (matrixOf :
         refused = λ h. absurd (h refl);
         accepted = λ _. d;
         fresh = λ _. left;
+        symmetric = λ _ s. subst (Symmetric (nnode m)) (sym (d .cells)) (renewed-symmetric (ring m (same v)) (cellOf (moved m v x y z)) (nnode m) old turned s);
         demand = λ _ h. (refl, left h);
         renews = λ _ _. (refl, d);
       }
@@ -103,6 +108,7 @@ claim-known number kind m old v x y z r count m′ new e w =
       refused = w .refused;
       accepted = w .accepted;
       fresh = w .fresh;
+      symmetric = w .symmetric;
       demand = λ p. w .demand (under p);
       renews = λ p. w .renews (under p);
     })

@@ -15,6 +15,7 @@ use Rattle.mesh.specs.Conditions.{NodeColumnsAlike, PanelColumnsAlike, NoneMiss
 use Rattle.coupling.specs.Block.{mutualInductanceBlock}
 use Rattle.scatter.specs.Entries.{same}
 use Rattle.scatter.specs.Renewal.{renewed}
+use Rattle.scatter.specs.Mirror.{Symmetric}
 use Rattle.inductance.specs.Matrix.{cell, matrix}
 use Rattle.inductance.specs.Assembly.{blockUnder}
 pub use Rattle.node_ring.specs.Place.{moved, placeChecks}
@@ -56,13 +57,14 @@ pub record Premise (Choice : Type 0) (m : Mesh) (v : ℕ) (x y z : Float) : Type
 
 -- Demand 3, for a call that answers r and count and leaves m′ and new, over any cells cellOf and their fresh matrix matrixOf.
 -- number, refused, accepted: the number; refused: all as it was and the count 0; accepted: the moved mesh, its fresh cells where row or column is in the ring and the old numbers elsewhere, the
--- count of those cells. fresh: a fresh matrix handed in is left as the moved mesh's. demand, renews: under demand 3's premise the move is not refused, so a call that refuses everything does
--- not meet this.
+-- count of those cells. fresh: a fresh matrix handed in is left as the moved mesh's. symmetric: a matrix in CR 1's form, fresh or not, is left in this form. demand, renews: under demand 3's
+-- premise the move is not refused, so a call that refuses everything does not meet this.
 pub record MoveClaim (Choice : Type 0) (cellOf : Mesh → ℕ → ℕ → Float) (matrixOf : Mesh → List Float) (refusal : ℕ) (m : Mesh) (old : List Float) (v : ℕ) (x y z : Float) (r count : ℕ) (m′ : Mesh) (new : List Float) : Type 0 where
   pub number : r ≡ refusal
   pub refused : (r ≡ 0 → ⊥) → (m′ ≡ m) × (new ≡ old) × (count ≡ 0)
   pub accepted : r ≡ 0 → Done cellOf m old v x y z count m′ new
   pub fresh : r ≡ 0 → old ≡ matrixOf m → new ≡ matrixOf (moved m v x y z)
+  pub symmetric : r ≡ 0 → Symmetric (nnode m) old → Symmetric (nnode m) new
   pub demand : Premise Choice m v x y z → old ≡ matrixOf m → (r ≡ 0) × (new ≡ matrixOf (moved m v x y z))
   pub renews : Premise Choice m v x y z → length old ≡ nnode m * nnode m → (r ≡ 0) × Done cellOf m old v x y z count m′ new
 

@@ -10,10 +10,10 @@ use lib.Dec.{eqb}
 use lib.Arith.{digits-div, digits-mod}
 use lib.Ieee.{Float, nan}
 use borrow.Author.Tests.{eqb-true, eq-eqb}
-use Rattle.binary64.specs.Binary64.{at, plusZero}
+use Rattle.binary64.specs.Binary64.{at}
 use Rattle.lists.proofs.Filling.{tabulate-length, tabulate-at}
-use Rattle.scatter.specs.Entries.{Entry, oriented, withTransposed, hits, keep, contributions, sumFrom, cellSum, square}
-use Rattle.scatter.specs.Renewal.{named, renewed, addAt, scatter, only, keepEntry, Within}
+use Rattle.scatter.specs.Entries.{Entry, oriented, withTransposed, hits, keep, contributions, sumFrom, square}
+use Rattle.scatter.specs.Renewal.{named, renewedCell, renewed, addAt, scatter, added, only, keepEntry, Within}
 
 both-on : (a b : Bool) → (a && b) ≡ true → (a ≡ true) × (b ≡ true)
 both-on true b e = (refl, e)
@@ -86,23 +86,23 @@ pub at-renewed : (r : ℕ → Bool) (g : ℕ → ℕ → Float) (n : ℕ) (old :
     → k < n * n → at (renewed r g n old) k ≡ cond (named r (k / n) (k % n)) (g (k / n) (k % n)) (at old k)
 unfolding renewed
 at-renewed r g n old k h =
-    at-square n (λ a b. cond (named r a b) (g a b) (at old (a * n + b))) k h
+    at-square n (renewedCell r g n old) k h
     ∙ ap (λ (j : ℕ). cond (named r (k / n) (k % n)) (g (k / n) (k % n)) (at old j)) (div-add-mod' k n)
 
--- ---- the additions to named cells: all those of a named cell, none of another
+-- ---- the additions that are made: all those of a named cell on or above the diagonal, none of another
 missed : (t : Bool) (e : Entry) (es : List Entry) (a b : ℕ) → hits e a b ≡ false → contributions (keepEntry t e es) a b ≡ contributions es a b
 missed true e es a b h = rw h
 missed false e es a b h = refl
 
-contributions-only : (r : ℕ → Bool) (es : List Entry) (a b : ℕ) → contributions (only r es) a b ≡ cond (named r a b) (contributions es a b) []
-contributions-only r [] a b = go (named r a b)
+contributions-only : (r : ℕ → Bool) (es : List Entry) (a b : ℕ) → contributions (only r es) a b ≡ cond (added r a b) (contributions es a b) []
+contributions-only r [] a b = go (added r a b)
   where
     go : (t : Bool) → _≡_ {A = List Float} [] (cond t [] [])
     go true = refl
     go false = refl
 contributions-only r (e ∷ es) a b = go (hits e a b) refl (contributions-only r es a b)
   where
-    there : hits e a b ≡ true → named r (e .row) (e .col) ≡ named r a b
+    there : hits e a b ≡ true → added r (e .row) (e .col) ≡ added r a b
     there h = let w = both-on _ _ h in rw (eqb-true (e .row) a (w .0), eqb-true (e .col) b (w .1))
 
     hit : (t : Bool)
@@ -114,14 +114,14 @@ contributions-only r (e ∷ es) a b = go (hits e a b) refl (contributions-only r
 
     go : (t : Bool)
         → hits e a b ≡ t
-        → contributions (only r es) a b ≡ cond (named r a b) (contributions es a b) []
-        → contributions (keepEntry (named r (e .row) (e .col)) e (only r es)) a b ≡ cond (named r a b) (keep (hits e a b) (e .value) (contributions es a b)) []
-    go true h ih = rw (there h, h) (hit (named r a b) h ih)
-    go false h ih = missed (named r (e .row) (e .col)) e (only r es) a b h ∙ ih ∙ rw h
+        → contributions (only r es) a b ≡ cond (added r a b) (contributions es a b) []
+        → contributions (keepEntry (added r (e .row) (e .col)) e (only r es)) a b ≡ cond (added r a b) (keep (hits e a b) (e .value) (contributions es a b)) []
+    go true h ih = rw (there h, h) (hit (added r a b) h ih)
+    go false h ih = missed (added r (e .row) (e .col)) e (only r es) a b h ∙ ih ∙ rw h
 
 pub only-append : (r : ℕ → Bool) (es fs : List Entry) → only r (es ++ fs) ≡ only r es ++ only r fs
 only-append r [] fs = refl
-only-append r (e ∷ es) fs = go (named r (e .row) (e .col)) (only-append r es fs)
+only-append r (e ∷ es) fs = go (added r (e .row) (e .col)) (only-append r es fs)
   where
     go : (t : Bool) → only r (es ++ fs) ≡ only r es ++ only r fs → keepEntry t e (only r (es ++ fs)) ≡ keepEntry t e (only r es) ++ only r fs
     go true ih = ap {B = List Entry} (λ l. e ∷ l) ih
@@ -144,26 +144,16 @@ within-both n false es w = within-append n es (oriented true es) w (within-trans
 
 within-only : (n : ℕ) (r : ℕ → Bool) (es : List Entry) → Within n es → Within n (only r es)
 within-only n r [] w = tt
-within-only n r (e ∷ es) w = go (named r (e .row) (e .col)) (within-only n r es (w .2))
+within-only n r (e ∷ es) w = go (added r (e .row) (e .col)) (within-only n r es (w .2))
   where
     go : (t : Bool) → Within n (only r es) → Within n (keepEntry t e (only r es))
     go true ih = (w .0, w .1, ih)
     go false ih = ih
 
--- ---- the additions to named cells, from a matrix whose named cells are +0, make the renewed matrix
-pub scatter-named : (n : ℕ) (r : ℕ → Bool) (es : List Entry) (old start : List Float)
+-- a cell after the additions that are made
+pub at-added : (n : ℕ) (r : ℕ → Bool) (es : List Entry) (start : List Float) (k : ℕ)
     → Within n es
-    → length start ≡ n * n
-    → ((k : ℕ) → k < n * n → at start k ≡ cond (named r (k / n) (k % n)) plusZero (at old k))
-    → scatter n start (only r es) ≡ renewed r (λ a b. cellSum (contributions es a b)) n old
-unfolding renewed cellSum
-scatter-named n r es old start w l z =
-    square-ext n _ (scatter n start (only r es)) (length-scatter n (only r es) start ∙ l)
-    (λ k h. at-scatter n k (only r es) start (within-only n r es w) (rw l h)
-    ∙ rw (contributions-only r es (k / n) (k % n), z k h, div-add-mod' k n) (go (named r (k / n) (k % n)) k))
-  where
-    go : (t : Bool) (k : ℕ)
-        → sumFrom (cond t plusZero (at old k)) (cond t (contributions es (k / n) (k % n)) [])
-        ≡ cond t (sumFrom plusZero (contributions es (k / n) (k % n))) (at old k)
-    go true k = refl
-    go false k = refl
+    → k < length start
+    → at (scatter n start (only r es)) k ≡ sumFrom (at start k) (cond (added r (k / n) (k % n)) (contributions es (k / n) (k % n)) [])
+at-added n r es start k w l =
+    at-scatter n k (only r es) start (within-only n r es w) l ∙ ap (sumFrom (at start k)) (contributions-only r es (k / n) (k % n))

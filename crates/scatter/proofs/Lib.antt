@@ -1,7 +1,8 @@
 pub mod Cells
 pub mod Steps
 pub mod Links
-pub mod Clearing
+pub mod Rows
+pub mod Mirror
 pub mod Misses
 pub mod Renewals
 pub mod Flags

@@ -1,6 +1,6 @@
 -- The first number that passes: where it lies, that it passes and that those before it do not; and a step of the scan that finds it from above.
 use mathlib.Core.Path.{_≡_, refl, sym, ap, _∙_, subst}
-use mathlib.Core.Bool.{Bool, true, false, _||_, cond, false≢true}
+use mathlib.Core.Bool.{Bool, true, false, cond}
 use mathlib.Core.Logic.{_⊎_, inl, inr}
 use mathlib.Core.List.{List}
 use Prim.Native.Nat.{ℕ, zero, suc, _+_, _-_, _<_, _≤_}
@@ -23,6 +23,9 @@ next-bounds t j (suc c) = go (t j) (next-bounds t (suc j) c)
         → (j ≤ cond b j (nextFrom t (suc j) c)) × (cond b j (nextFrom t (suc j) c) ≤ j + suc c)
     go true w = (omega arith, omega arith)
     go false w = (omega (arith, w .0), omega (arith, w .1))
+
+pub next-above : (t : ℕ → Bool) (j c : ℕ) {k : ℕ} → k ≡ nextFrom t j c → j ≤ k
+next-above t j c e = rw e (next-bounds t j c .0)
 
 -- one that is there passes
 pub next-passes : (t : ℕ → Bool) (j c : ℕ) → nextFrom t j c < j + c → t (nextFrom t j c) ≡ true

@@ -1,16 +1,17 @@
 -- Which cells a block's additions leave alone, and with marks, which blocks add nothing.
 use mathlib.Core.Path.{_≡_, refl, ap, ap₂, _∙_}
-use mathlib.Core.Bool.{Bool, true, false, _&&_, _||_, and-comm, or-comm}
-use mathlib.Core.List.{List, [], _∷_, _++_, map}
+use mathlib.Core.Bool.{Bool, true, false, _&&_, _||_, and-comm}
+use mathlib.Core.List.{List, [], _∷_, _++_}
 use Prim.Native.Nat.{ℕ, suc, _+_}
 use lib.Dec.{eqb}
 use lib.Ieee.{Float}
 use Rattle.binary64.specs.Binary64.{at}
 use Rattle.lists.specs.Counting.{anyOf}
 use Rattle.refusal.proofs.Tests.{or-off}
-use Rattle.scatter.specs.Entries.{Entry, same, transpose, rowEntries, blockEntries, oriented, withTransposed, hits, keep, contributions}
-use Rattle.scatter.specs.Renewal.{named, scatter, only, keepEntry, renewing}
+use Rattle.scatter.specs.Entries.{Entry, same, rowEntries, blockEntries, oriented, withTransposed, hits, keep, contributions}
+use Rattle.scatter.specs.Renewal.{scatter, only, renewing}
 use Rattle.scatter.proofs.Cells.{only-append}
+use Rattle.scatter.proofs.Steps.{oriented-append}
 
 -- ---- contributions
 pub contributions-append : (es fs : List Entry) (a b : ℕ) → contributions (es ++ fs) a b ≡ contributions es a b ++ contributions fs a b
@@ -67,37 +68,32 @@ unfolding withTransposed
 both-miss true es a b h g = h
 both-miss false es a b h g = contributions-append es (oriented true es) a b ∙ ap₂ (λ (l r : List Float). l ++ r) h (contributions-transposed es a b ∙ g)
 
--- ---- with marks: a block whose nodes are not marked adds nothing
-only-transposed : (r : ℕ → Bool) (es : List Entry) → only r (oriented true es) ≡ oriented true (only r es)
-unfolding oriented
-only-transposed r [] = refl
-only-transposed r (e ∷ es) = rw (or-comm (r (e .col)) (r (e .row))) (go (named r (e .row) (e .col)) (only-transposed r es))
-  where
-    go : (t : Bool) → only r (map transpose es) ≡ map transpose (only r es) → keepEntry t (transpose e) (only r (map transpose es)) ≡ map transpose (keepEntry t e (only r es))
-    go true ih = ap {B = List Entry} (λ l. transpose e ∷ l) ih
-    go false ih = ih
+-- ---- with marks: a block whose nodes are not marked adds nothing, in either orientation
+only-row : (r : ℕ → Bool) (u : Bool) (x : ℕ) (t : List ℕ) (v : List Float) (k : ℕ) → r x ≡ false → anyOf r t ≡ false → only r (oriented u (rowEntries x t v k)) ≡ []
+unfolding rowEntries anyOf oriented
+only-row r false x [] v k h g = refl
+only-row r true x [] v k h g = refl
+only-row r false x (y ∷ t) v k h g = let w = or-off (r y) (anyOf r t) g in rw (h, w .0) (only-row r false x t v (suc k) h (w .1))
+only-row r true x (y ∷ t) v k h g = let w = or-off (r y) (anyOf r t) g in rw (h, w .0) (only-row r true x t v (suc k) h (w .1))
 
-only-row : (r : ℕ → Bool) (x : ℕ) (t : List ℕ) (v : List Float) (k : ℕ) → r x ≡ false → anyOf r t ≡ false → only r (rowEntries x t v k) ≡ []
-unfolding rowEntries anyOf
-only-row r x [] v k h g = refl
-only-row r x (y ∷ t) v k h g = let w = or-off (r y) (anyOf r t) g in rw (h, w .0) (only-row r x t v (suc k) h (w .1))
-
-only-block : (r : ℕ → Bool) (s t : List ℕ) (v : List Float) (k : ℕ) → anyOf r s ≡ false → anyOf r t ≡ false → only r (blockEntries s t v k) ≡ []
-unfolding blockEntries anyOf
-only-block r [] t v k h g = refl
-only-block r (x ∷ s) t v k h g =
+only-block : (r : ℕ → Bool) (u : Bool) (s t : List ℕ) (v : List Float) (k : ℕ) → anyOf r s ≡ false → anyOf r t ≡ false → only r (oriented u (blockEntries s t v k)) ≡ []
+unfolding blockEntries anyOf oriented
+only-block r false [] t v k h g = refl
+only-block r true [] t v k h g = refl
+only-block r u (x ∷ s) t v k h g =
     let w = or-off _ _ h in
-    only-append r (rowEntries x t v k) (blockEntries s t v (k + 3))
-    ∙ ap₂ (λ (l m : List Entry). l ++ m) (only-row r x t v k (w .0) g) (only-block r s t v (k + 3) (w .1) g)
+    ap (only r) (oriented-append u (rowEntries x t v k) (blockEntries s t v (k + 3)))
+    ∙ only-append r (oriented u (rowEntries x t v k)) (oriented u (blockEntries s t v (k + 3)))
+    ∙ ap₂ (λ (l m : List Entry). l ++ m) (only-row r u x t v k (w .0) g) (only-block r u s t v (k + 3) (w .1) g)
 
-only-both : (r : ℕ → Bool) (u : Bool) (es : List Entry) → only r es ≡ [] → only r (withTransposed u es) ≡ []
+only-both : (r : ℕ → Bool) (u : Bool) (es : List Entry) → ((t : Bool) → only r (oriented t es) ≡ []) → only r (withTransposed u es) ≡ []
 unfolding withTransposed oriented
-only-both r true es h = h
-only-both r false es h = only-append r es (oriented true es) ∙ ap₂ (λ (l m : List Entry). l ++ m) h (only-transposed r es ∙ ap (oriented true) h)
+only-both r true es h = h false
+only-both r false es h = only-append r es (oriented true es) ∙ ap₂ (λ (l m : List Entry). l ++ m) (h false) (h true)
 
 pub block-skipped : (r : ℕ → Bool) (n : ℕ) (u : Bool) (s t : List ℕ) (v : List Float) (out : List Float)
     → (anyOf r s || anyOf r t) ≡ false → renewing r n out (withTransposed u (blockEntries s t v 0)) ≡ out
 unfolding renewing scatter
 block-skipped r n u s t v out h =
     let w = or-off _ _ h in
-    ap (scatter n out) (only-both r u (blockEntries s t v 0) (only-block r s t v 0 (w .0) (w .1)))
+    ap (scatter n out) (only-both r u (blockEntries s t v 0) (λ o. only-block r o s t v 0 (w .0) (w .1)))

@@ -1,21 +1,25 @@
--- Additions to named cells made in several calls: a list made after another is their concatenation, and each kind of addition by the marks it meets.
+-- Additions made in several calls: a list made after another is their concatenation, and one addition is made or not by the cell it goes to.
 use mathlib.Core.Path.{_≡_, refl, sym, ap, _∙_, subst}
-use mathlib.Core.Bool.{Bool, true, false, _||_}
+use mathlib.Core.Bool.{Bool, true, false}
 use mathlib.Core.List.{List, [], _∷_, _++_, map}
 use Prim.Native.Nat.{ℕ, zero, suc, _+_, _*_, _/_, _%_, _<_, _≤_}
-use native.Mathlib.Nat.{mul-le-mul, zero-mul, not-suc-le-zero, div-lt-iff-lt-mul, mod-lt}
+use native.Mathlib.Nat.{lt-trans, mul-le-mul, zero-mul, not-suc-le-zero, div-lt-iff-lt-mul, mod-lt}
 use native.Mathlib.Omega.{arith}
 use lib.Arith.{digits-lt}
 use lib.ListN.{length}
 use lib.Ieee.{Float}
 use Rattle.mesh.specs.Mesh.{maxNodes}
 use Rattle.scatter.specs.Entries.{Entry, entry, transpose, oriented, withTransposed}
-use Rattle.scatter.specs.Renewal.{addAt, scatter, only, renewing, marked}
+use Rattle.scatter.specs.Renewal.{addAt, scatter, added, only, renewing, marked}
 use Rattle.scatter.proofs.Cells.{only-append, scatter-append, length-scatter}
 
 -- ---- where a cell stands
 pub in-square : {n row col : ℕ} → n ≤ maxNodes → row < n → col < n → (row * n + col < n * n) × (n * n ≤ maxNodes * maxNodes)
 in-square {n} s r c = (digits-lt r c, mul-le-mul s s)
+
+-- two cells that mirror each other
+pub both-in-square : {n a b : ℕ} → n ≤ maxNodes → a < b → b < n → (a * n + b < n * n) × (b * n + a < n * n) × (n * n ≤ maxNodes * maxNodes)
+both-in-square s l h = let w = in-square s h (lt-trans l h) in (in-square s (lt-trans l h) h .0, w .0, w .1)
 
 some-node : {n k l : ℕ} → l ≡ n * n → k < l → 0 < n
 some-node {n} {k} e h = pos-of n (subst (λ (x : ℕ). k < x) e h)
@@ -39,22 +43,22 @@ pub length-renewing : (r : ℕ → Bool) (n : ℕ) (m : List Float) (es : List E
 unfolding renewing
 length-renewing r n m es = length-scatter n (only r es) m
 
-oriented-append : (t : Bool) (es fs : List Entry) → oriented t (es ++ fs) ≡ oriented t es ++ oriented t fs
+pub oriented-append : (t : Bool) (es fs : List Entry) → oriented t (es ++ fs) ≡ oriented t es ++ oriented t fs
 unfolding oriented
 oriented-append false es fs = refl
 oriented-append true [] fs = refl
 oriented-append true (e ∷ es) fs = ap {B = List Entry} (λ l. transpose e ∷ l) (oriented-append true es fs)
 
--- one addition: its cell is named and it is made, or not
+-- one addition: it is made, or not
 module _ (marks : List Bool) (n : ℕ) (m : List Float) (row col : ℕ) (v : Float) where
-  pub named-added : {new : List Float}
-      → (marked marks row || marked marks col) ≡ true → new ≡ addAt n m (entry row col v) → new ≡ renewing (marked marks) n m (entry row col v ∷ [])
+  pub one-made : {new : List Float}
+      → added (marked marks) row col ≡ true → new ≡ addAt n m (entry row col v) → new ≡ renewing (marked marks) n m (entry row col v ∷ [])
   unfolding scatter renewing
-  named-added h e = rw h e
+  one-made h e = rw h e
 
-  pub other-left : (marked marks row || marked marks col) ≡ false → m ≡ renewing (marked marks) n m (entry row col v ∷ [])
+  pub none-made : added (marked marks) row col ≡ false → m ≡ renewing (marked marks) n m (entry row col v ∷ [])
   unfolding scatter renewing
-  other-left h = rw h
+  none-made h = rw h
 
 -- three calls, one after the other, all in one orientation
 pub three-steps : (r : ℕ → Bool) (n : ℕ) (t : Bool) (m : List Float) (es fs gs : List Entry) {m₁ m₂ m₃ : List Float}

@@ -1,4 +1,5 @@
 pub mod Entries
 pub mod Renewal
+pub mod Mirror
 pub mod Links
 pub mod Flags

@@ -1,12 +1,13 @@
--- Document 01's move: cells of a matrix worked out anew while the others keep their numbers: a cell is named if its row or its column is marked, and only additions to named cells are made.
--- With every node marked this is the assembly of the whole matrix. Definitions only.
-use mathlib.Core.Bool.{Bool, true, false, _||_, cond}
+-- Document 01's move: cells of a matrix worked out anew while the others keep their numbers: a cell is named if its row or its column is marked. Additions are made to named cells on and above
+-- the diagonal only; those below it become copies (specs/Mirror). With every node marked this is the assembly of the whole matrix. Definitions only.
+use mathlib.Core.Bool.{Bool, true, false, _&&_, _||_, cond}
 use mathlib.Core.Path.{_≡_}
 use mathlib.Core.List.{List, [], _∷_}
 use Prim.Native.Nat.{ℕ, _+_, _*_, _<_, _≤_}
+use lib.Dec.{leb}
 use lib.ListN.{length, getD, set}
 use lib.Ieee.{Float}
-use Rattle.binary64.specs.Binary64.{_⊕_, at, plusZero}
+use Rattle.binary64.specs.Binary64.{_⊕_, at}
 use Rattle.mesh.specs.Mesh.{maxNodes}
 use Rattle.scatter.specs.Entries.{Entry, square}
 
@@ -14,13 +15,13 @@ use Rattle.scatter.specs.Entries.{Entry, square}
 abbrev pub named : (ℕ → Bool) → ℕ → ℕ → Bool
 named r a b = r a || r b
 
+-- the cell (a, b) once named cells are g's
+abbrev pub renewedCell : (ℕ → Bool) → (ℕ → ℕ → Float) → ℕ → List Float → ℕ → ℕ → Float
+renewedCell r g n old a b = cond (named r a b) (g a b) (at old (a * n + b))
+
 -- named cells are g's, every other cell keeps its number
 unfoldable pub renewed : (ℕ → Bool) → (ℕ → ℕ → Float) → ℕ → List Float → List Float
-renewed r g n old = square n (λ a b. cond (named r a b) (g a b) (at old (a * n + b)))
-
--- the number due at column b of row a once named cells are +0
-abbrev pub clearedIn : (ℕ → Bool) → ℕ → List Float → ℕ → ℕ → Float
-clearedIn r n old a b = cond (named r a b) plusZero (at old (a * n + b))
+renewed r g n old = square n (renewedCell r g n old)
 
 -- ---- the additions, made one after the other in a matrix of n columns
 abbrev pub addAt : ℕ → List Float → Entry → List Float
@@ -34,10 +35,14 @@ abbrev pub keepEntry : Bool → Entry → List Entry → List Entry
 keepEntry true e es = e ∷ es
 keepEntry false e es = es
 
--- those that go to named cells
+-- a named cell on or above the diagonal
+abbrev pub added : (ℕ → Bool) → ℕ → ℕ → Bool
+added r a b = named r a b && leb a b
+
+-- the additions to such cells
 abbrev pub only : (ℕ → Bool) → List Entry → List Entry
 only r [] = []
-only r (e ∷ es) = keepEntry (named r (e .row) (e .col)) e (only r es)
+only r (e ∷ es) = keepEntry (added r (e .row) (e .col)) e (only r es)
 
 -- those, made
 unfoldable pub renewing : (ℕ → Bool) → ℕ → List Float → List Entry → List Float

@@ -1,6 +1,7 @@
 // Additions to a nodal matrix of n rows and n columns, row by row, as in `scatter_triangle_block` and
 // `scatter_triangle_block_transpose` of inductance.rs. Only cells with a marked row or column change:
 // with every node marked the whole matrix is assembled, with a ring marked the cells that a move names.
+// Additions are made on and above the diagonal; a cell below it is then a copy of the one above.
 ghost use mathlib.Core.Path.{_≡_};
 ghost use mathlib.Core.Bool.{cond};
 ghost use mathlib.Core.List.{[], _∷_};
@@ -13,7 +14,8 @@ ghost use Rattle.mesh.specs.Conditions.{PanelColumnsAlike};
 ghost use Rattle.lists.specs.Counting.{anyOf, triple};
 ghost use Rattle.lists.specs.Filling.{run};
 ghost use Rattle.scatter.specs.Entries.{entry, rowEntries, blockEntries, oriented, withTransposed};
-ghost use Rattle.scatter.specs.Renewal.{named, renewed, addAt, renewing, clearedIn, marked, Sized, AllBelow};
+ghost use Rattle.scatter.specs.Renewal.{named, renewedCell, renewed, addAt, renewing, marked, Sized, AllBelow};
+ghost use Rattle.scatter.specs.Mirror.{mirrored, cellsOf, copiedBelow};
 ghost use Rattle.scatter.specs.Links.{nextFrom, LinksNext};
 ghost use Rattle.scatter.specs.Flags.{IndicesBelow, Flagged};
 
@@ -26,13 +28,13 @@ fn add_at(out: &mut [f64], n: usize, row: usize, col: usize, v: f64)
     out[k] = out[k] + v;
 }
 
-// One addition, if its cell is named.
+// One addition, if its cell is named and not below the diagonal.
 fn add_named(out: &mut [f64], n: usize, marks: &[bool], row: usize, col: usize, v: f64)
     requires { ⌜ Sized n (now out) (now marks) ⌝ }
     requires { ⌜ (row < n) × (col < n) ⌝ }
     ensures { λ _. ⌜ left out ≡ renewing (marked (passed marks)) n (passed out) (entry row col v ∷ []) ⌝ }
 {
-    if marks[row] | marks[col] {
+    if (marks[row] | marks[col]) & (row <= col) {
         add_at(out, n, row, col, v);
     }
 }
@@ -167,7 +169,7 @@ pub fn next_named(marks: &[bool], links: &[usize], n: usize, row: usize, col: us
 fn clear_row(out: &mut [f64], n: usize, marks: &[bool], links: &[usize], row: usize)
     requires { ⌜ Sized n (now out) (now marks) ⌝ }
     requires { ⌜ (row < n) × (n ≤ length (now links)) × LinksNext 0 (marked (now marks)) n (now links) ⌝ }
-    ensures { λ _. ⌜ left out ≡ run (passed out) (row * n) n (clearedIn (marked (passed marks)) n (passed out) row) n ⌝ }
+    ensures { λ _. ⌜ left out ≡ run (passed out) (row * n) n (renewedCell (marked (passed marks)) (λ a b. plusZero) n (passed out) row) n ⌝ }
 {
     let base = row * n;
     let mut col = next_named(marks, links, n, row, 0);
@@ -187,6 +189,33 @@ pub fn clear_named(out: &mut [f64], n: usize, marks: &[bool])
     let mut row = 0;
     while row < n {
         clear_row(out, n, marks, &links, row);
+        row += 1;
+    }
+}
+
+// The named cells (b, a) of row b with a below b become copies of (a, b).
+fn copy_row_below(out: &mut [f64], n: usize, marks: &[bool], links: &[usize], b: usize)
+    requires { ⌜ Sized n (now out) (now marks) ⌝ }
+    requires { ⌜ (b < n) × (n ≤ length (now links)) × LinksNext 0 (marked (now marks)) n (now links) ⌝ }
+    ensures { λ _. ⌜ left out ≡ run (passed out) (b * n) n (renewedCell (marked (passed marks)) (mirrored (cellsOf n (passed out))) n (passed out) b) n ⌝ }
+{
+    let mut a = next_named(marks, links, n, b, 0);
+    while a < b {
+        out[b * n + a] = out[a * n + b];
+        a = next_named(marks, links, n, b, a + 1);
+    }
+}
+
+// Named cells below the diagonal become copies of those above.
+pub fn copy_below(out: &mut [f64], n: usize, marks: &[bool])
+    requires { ⌜ Sized n (now out) (now marks) ⌝ }
+    ensures { λ _. ⌜ left out ≡ copiedBelow (marked (passed marks)) n (passed out) ⌝ }
+{
+    let mut links: [usize; mesh::MAX_NODES] = [0; mesh::MAX_NODES];
+    link_marked(marks, n, &mut links);
+    let mut row = 0;
+    while row < n {
+        copy_row_below(out, n, marks, &links, row);
         row += 1;
     }
 }

@@ -63,6 +63,24 @@ impl Matrix {
             count => format!("note: {count} cells are not finite; look at the nodes of the panel file\n"),
         }
     }
+
+    /// A sentence on cells below the diagonal that differ from their mirror, if there are any.
+    pub(crate) fn mirror_note(&self) -> String {
+        let cells = match self.differing() {
+            0 => return String::new(),
+            1 => "1 cell below the diagonal differs from its mirror".to_string(),
+            count => format!("{count} cells below the diagonal differ from their mirror"),
+        };
+        format!("note: {cells}; compute the matrix anew\n")
+    }
+
+    /// How many cells (b, a) below the diagonal differ from (a, b). NaN is one number; −0 and +0 differ.
+    fn differing(&self) -> usize {
+        let cell = |a: usize, b: usize| self.cells[a * self.n + b];
+        let alike = |x: f64, y: f64| x.to_bits() == y.to_bits() || (x.is_nan() && y.is_nan());
+        let in_row = |b: usize| (0..b).filter(|&a| !alike(cell(b, a), cell(a, b))).count();
+        (0..self.n).map(in_row).sum()
+    }
 }
 
 /// Reads a row of numbers whose mark has been recognised by [`is_npy`].
@@ -232,6 +250,41 @@ impl<'a> Words<'a> {
 #[cfg(test)]
 mod tests {
     use super::*;
+
+    fn matrix(n: usize, cells: &[f64]) -> Matrix {
+        let cells = cells.to_vec();
+        Matrix { n, cells }
+    }
+
+    #[test]
+    fn cells_that_differ_from_their_mirror_are_counted() {
+        let differing = |n: usize, cells: &[f64]| matrix(n, cells).differing();
+        assert_eq!(differing(0, &[]), 0);
+        assert_eq!(differing(1, &[f64::NAN]), 0);
+        assert_eq!(differing(3, &[1.0, 2.0, 3.0, 2.0, 4.0, 5.0, 3.0, 5.0, 6.0]), 0);
+        assert_eq!(differing(3, &[1.0, 2.0, 3.0, 2.0, 4.0, 5.0, 3.0, 7.0, 6.0]), 1);
+        assert_eq!(differing(3, &[1.0, 2.0, 3.0, 4.0, 5.0, 6.0, 7.0, 8.0, 9.0]), 3);
+        let other_nan = f64::from_bits(0xfff8_0000_0000_0001);
+        assert_eq!(differing(2, &[0.0, f64::NAN, other_nan, 0.0]), 0);
+        assert_eq!(differing(2, &[0.0, f64::NAN, 1.0, 0.0]), 1);
+        assert_eq!(differing(2, &[1.0, 0.0, -0.0, 1.0]), 1);
+        assert_eq!(differing(2, &[1.0, -0.0, -0.0, 1.0]), 0);
+        assert_eq!(differing(2, &[1.0, 1.0, 1f64.next_up(), 1.0]), 1);
+    }
+
+    #[test]
+    fn their_note_has_one_and_many() {
+        let note = |last: f64| matrix(3, &[1.0, 2.0, 3.0, 2.0, 4.0, 5.0, last, 6.0, 7.0]).mirror_note();
+        assert_eq!(
+            note(3.0),
+            "note: 1 cell below the diagonal differs from its mirror; compute the matrix anew\n"
+        );
+        assert_eq!(
+            note(4.0),
+            "note: 2 cells below the diagonal differ from their mirror; compute the matrix anew\n"
+        );
+        assert_eq!(Matrix::zeros(3).mirror_note(), "");
+    }
 
     #[test]
     fn heads_are_as_numpy_writes_them() {

@@ -66,6 +66,40 @@ fn a_run_of_moves_ends_in_the_fresh_matrix() {
 }
 
 #[test]
+fn a_move_notes_cells_that_differ_from_their_mirror() {
+    let folder = Folder::new("mirror");
+    let line = "move square.pnl given.npy --node 3 --to 1.25 1.5 -0.5 --rule 3 -o out.npy";
+    let words: Vec<&str> = line.split(' ').collect();
+    let counted: Vec<f64> = (0..16).map(f64::from).collect();
+    let mut one = [3.0; 16];
+    one[13] = 4.0;
+    let note = "below the diagonal differ from their mirror; compute the matrix anew";
+    let note_of_one = "below the diagonal differs from its mirror; compute the matrix anew";
+    for (given, said) in [
+        (&counted[..], format!("note: 6 cells {note}\n")),
+        (&one, format!("note: 1 cell {note_of_one}\n")),
+        (&[3.0; 16], String::new()),
+    ] {
+        folder.put("given.npy", &npy("(4, 4)", given));
+        let ran = folder.run(&words);
+        assert_eq!((ran.status, ran.err), (Some(0), said));
+        assert!(
+            ran.out.ends_with("\n15 of 16 cells renewed\nwrote out.npy\n"),
+            "{}",
+            ran.out
+        );
+        let (mut mesh, mut due) = (square(), given.to_vec());
+        mesh.move_node(QuadratureKind::Dunavant3, &mut due, 3, [1.25, 1.5, -0.5])
+            .unwrap();
+        assert_eq!(folder.get("out.npy"), npy("(4, 4)", &due));
+    }
+    folder.put("given.npy", &npy("(4, 4)", &counted));
+    let refused = folder.run(&line.replace("--node 3", "--node 4").split(' ').collect::<Vec<_>>());
+    assert_eq!(refused.status, Some(1));
+    assert!(!refused.err.contains("note"), "{}", refused.err);
+}
+
+#[test]
 fn density_as_the_program_prints_it() {
     let folder = Folder::new("density");
     let mut file = b"PNL\x01\x00\x03\x00\x01\x00".to_vec();

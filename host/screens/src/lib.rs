@@ -22,11 +22,13 @@
 //! # Ok::<(), screens::Refusal>(())
 //! ```
 //!
-//! # What differs from the original's signatures
+//! # What differs from the original
 //!
 //! - A view of row-major columns, the map builders and the parallel version are not here.
 //! - [`triangle_basis_mutual_inductance`] yields a `Result`: a corner above 2 is refused with 12 and does not stop the program.
 //! - The warning about poor panels is a count, [`TriangleMeshView::poor_panels`].
+//! - Below its diagonal the matrix is a copy of what stands above; the original's cells (a, b) and (b, a) can part in their last
+//!   bits.
 //! - Added: [`move_node`], the rows, the panel file, [`display`], and the owned [`TriangleMesh`].
 //!
 //! # Stack

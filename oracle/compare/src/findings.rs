@@ -1,24 +1,38 @@
 //! The surprising answers of docs/DIFFERENCES.md, asked of both: what the original answers and what ours does.
-use oracle::calls::Mesh;
+use oracle::calls::{self, Mesh};
 use oracle::eval::{self, Out};
+use oracle::generate::three_by_three;
 
 type Vector = [f64; 3];
 
 const UNIT: [Vector; 3] = [[0.0, 0.0, 0.0], [1.0, 0.0, 0.0], [0.0, 1.0, 0.0]];
 
+/// A question with the answers to it.
 struct Case {
     finding: u32,
-    what: &'static str,
+    what: String,
     kind: &'static str,
-    input: Out,
+    original: Vec<u64>,
+    /// What ours is to answer: as the original does, but for the cells below a matrix's diagonal.
+    due: Vec<u64>,
+    /// None where ours has no call.
+    ours: Option<Vec<u64>>,
 }
 
-fn case(finding: u32, what: &'static str, kind: &'static str, input: Out) -> Case {
+/// Ours to a case's input.
+fn ours(kind: &str, input: &Out) -> Option<Vec<u64>> {
+    replay::call(kind).map(|call| replay::answer(call, &input.0))
+}
+
+fn case(finding: u32, what: &str, kind: &'static str, input: Out) -> Case {
+    let original = eval::eval(eval::kind(kind).expect(kind), &input.0);
     Case {
         finding,
-        what,
+        what: what.into(),
         kind,
-        input,
+        due: original.clone(),
+        original,
+        ours: ours(kind, &input),
     }
 }
 
@@ -169,6 +183,28 @@ fn arithmetic() -> Vec<Case> {
     ]
 }
 
+/// Two cells of a matrix that part in the original; ours has the first at both.
+fn shared_edge() -> Vec<Case> {
+    let screen = three_by_three();
+    let n = screen.nodes();
+    let two = |cells: &[u64]| [(1, 4), (4, 1)].map(|(a, b)| cells[a * n + b]).to_vec();
+    let of_rule = |rule: u64| {
+        let cells = calls::original_matrix(rule, &screen, n * n).expect("an accepted mesh");
+        let original = two(&Out::default().results(&cells).0);
+        let input = Out::default().word(rule).mesh(&screen).size(n * n);
+        Case {
+            finding: 2,
+            what: format!("3 by 3 screen, rule {rule}: cell (1,4), and (4,1), which is its copy in ours"),
+            kind: "matrix",
+            due: vec![original[0]; 2],
+            original,
+            // the refusal's number stands before the cells
+            ours: ours("matrix", &input).map(|words| two(&words[1..])),
+        }
+    };
+    (1..=5).map(of_rule).collect()
+}
+
 /// Numbers with their bits; whole numbers as they are.
 fn shown(kind: &str, words: &[u64]) -> String {
     let one = |word: &u64| match kind {
@@ -178,26 +214,26 @@ fn shown(kind: &str, words: &[u64]) -> String {
     words.iter().map(one).collect::<Vec<_>>().join(", ")
 }
 
-/// Prints both answers to each; whether they agree wherever ours has the call, and it has some.
+/// Prints both answers to each; whether ours are those due wherever ours has the call, and it has some.
 pub fn run() -> bool {
-    let mut cases: Vec<Case> = [degenerate(), panels(), arithmetic()].into_iter().flatten().collect();
+    let mut cases: Vec<Case> = [degenerate(), shared_edge(), panels(), arithmetic()]
+        .into_iter()
+        .flatten()
+        .collect();
     cases.sort_by_key(|c| c.finding);
     let (mut asked, mut differ) = (0, 0);
-    for Case {
-        finding,
-        what,
-        kind,
-        input,
-    } in &cases
-    {
-        let due = eval::eval(eval::kind(kind).expect(kind), &input.0);
-        println!("{finding:2} {kind}: {what}\n   original {}", shown(kind, &due));
-        match replay::call(kind) {
-            Some(call) => {
-                let got = replay::answer(call, &input.0);
-                println!("   ours     {}", shown(kind, &got));
+    for case in &cases {
+        let (finding, kind) = (case.finding, case.kind);
+        println!(
+            "{finding:2} {kind}: {}\n   original {}",
+            case.what,
+            shown(kind, &case.original)
+        );
+        match &case.ours {
+            Some(got) => {
+                println!("   ours     {}", shown(kind, got));
                 asked += 1;
-                differ += (got != due) as usize;
+                differ += (*got != case.due) as usize;
             }
             None => println!("   ours     (no call of ours)"),
         }

@@ -116,12 +116,29 @@ pub fn entry(rule: u64, s: Triangle, i: u64, t: Triangle, j: u64) -> Result<f64,
     ))
 }
 
-pub fn matrix(rule: u64, mesh: &Mesh, length: usize) -> Result<Vec<f64>, u32> {
+/// The original's own matrix: (a, b) and (b, a) get the same additions in different order and may part.
+pub fn original_matrix(rule: u64, mesh: &Mesh, length: usize) -> Result<Vec<f64>, u32> {
     let kind = kind(rule)?;
     accepted(mesh)?;
     let mut out = vec![f64::NAN; length];
     be::triangle_mesh_inductance_matrix(&view(mesh).unwrap(), kind, &mut out).map_err(|_| 6u32)?;
     Ok(out)
+}
+
+/// Copies the upper half down: for a below b, cell (b, a) of the n by n becomes cell (a, b).
+pub fn mirror(cells: &mut [f64], n: usize) {
+    for a in 0..n {
+        for b in a + 1..n {
+            cells[b * n + a] = cells[a * n + b];
+        }
+    }
+}
+
+/// The matrix that is due: the original's on and above the diagonal, its mirror below.
+pub fn matrix(rule: u64, mesh: &Mesh, length: usize) -> Result<Vec<f64>, u32> {
+    let mut cells = original_matrix(rule, mesh, length)?;
+    mirror(&mut cells, mesh.nodes());
+    Ok(cells)
 }
 
 /// Two vectors: 5, 11, 7.
@@ -198,7 +215,8 @@ pub struct Moved {
     pub mesh: Mesh,
 }
 
-/// The move by its definition: the named cells are those of the moved mesh's fresh matrix.
+/// The move by its definition: the named cells are those of the moved mesh's fresh matrix; every other cell keeps its
+/// number, (a, b) and (b, a) each its own.
 pub fn move_node(rule: u64, mesh: &Mesh, given: &[f64], node: usize, place: [f64; 3]) -> Result<Moved, u32> {
     kind(rule)?;
     accepted(mesh)?;

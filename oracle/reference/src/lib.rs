@@ -1,5 +1,5 @@
 //! The answers that a port is held to: the original Rust, and over it what document 01 adds
-//! (refusal numbers, limits, the move, the panel file, the display value, the row).
+//! (refusal numbers, limits, the move, the panel file, the display value, the row) and the copies below a matrix's diagonal.
 pub mod calls;
 pub mod eval;
 pub mod generate;

@@ -119,6 +119,9 @@ fn statistics(file: &str) {
         let name = eval::name(kind);
         let counts = sorts.entry(kind).or_default();
         *counts.entry(sort(name, results)).or_default() += 1;
+        if let Some(what) = matrix_given(name, input, results[0]) {
+            *counts.entry(what.to_string()).or_default() += 1;
+        }
         let start = match name {
             "mesh_test" | "densities" => 0,
             "quadrature" | "matrix" | "move" => 1,
@@ -132,6 +135,38 @@ fn statistics(file: &str) {
     });
     for (kind, counts) in sorts {
         println!("{:18} {counts:?}", eval::name(kind));
+    }
+}
+
+/// The sort of matrix that an accepted move or energy is given.
+fn matrix_given(name: &str, input: &[u64], number: u64) -> Option<&'static str> {
+    let i = &mut eval::In::new(input);
+    let bits = |cells: &[f64]| cells.iter().map(|x| x.to_bits()).collect::<Vec<u64>>();
+    let symmetric = |cells: &[f64], n: usize| {
+        let mut mirror = cells.to_vec();
+        calls::mirror(&mut mirror, n);
+        bits(&mirror) == bits(cells)
+    };
+    match name {
+        "move" if number == 0 => {
+            let (rule, mesh, cells) = (i.word(), i.mesh(), i.numbers());
+            let own = calls::original_matrix(rule, &mesh, cells.len()).expect("an accepted mesh");
+            let due = calls::matrix(rule, &mesh, cells.len()).expect("an accepted mesh");
+            Some(match symmetric(&cells, mesh.nodes()) {
+                true if bits(&cells) == bits(&due) => "matrix: fresh",
+                true => "matrix: any, symmetric",
+                false if bits(&cells) == bits(&own) => "matrix: the original's, not symmetric",
+                false => "matrix: any, not symmetric",
+            })
+        }
+        "energy2" | "energy1" if number == 0 => {
+            let (cells, values) = (i.numbers(), i.numbers());
+            Some(match symmetric(&cells, values.len()) {
+                true => "matrix: symmetric",
+                false => "matrix: not symmetric",
+            })
+        }
+        _ => None,
     }
 }
 

@@ -1,5 +1,6 @@
-//! Checks the oracle by itself: document 01's bench sheet, the findings of docs/DIFFERENCES.md, the constants and tables
-//! that a port needs, and the count of poor panels against the count in the original's own warning.
+//! Checks the oracle by itself: document 01's bench sheet, the findings of docs/DIFFERENCES.md, the cells below a matrix's
+//! diagonal, the constants and tables that a port needs, and the count of poor panels against the count in the original's own
+//! warning.
 use crate::calls::{self, Mesh};
 use crate::inner::{self, Panel, Triangle};
 use crate::{canonical, generate, rng::Rng};
@@ -36,6 +37,7 @@ pub fn run() -> bool {
     let mut sheet = Sheet { differ: 0 };
     bench_sheet(&mut sheet);
     findings(&mut sheet);
+    below_the_diagonal(&mut sheet);
     warnings(&mut sheet);
     constants();
     standins_against_std();
@@ -280,6 +282,75 @@ fn findings(sheet: &mut Sheet) {
         "[-0.0, NaN, 0.0, 1.0]",
         format!("{clamped:?}"),
     );
+}
+
+/// The 3 by 3 screen, where cells (1,4) and (4,1) part in the original: the matrix that is due, and a move from any numbers; and
+/// energies, which sum all cells as they are.
+fn below_the_diagonal(sheet: &mut Sheet) {
+    println!("\nCells below the diagonal");
+    let screen = generate::three_by_three();
+    let two = |cells: Vec<f64>| format!("{} {}", hex(cells[9 + 4]), hex(cells[4 * 9 + 1]));
+    for rule in 1..=5 {
+        sheet.line(
+            &format!("(1,4) and (4,1) of the 3 by 3 screen, the original's, rule {rule}"),
+            "be8144fcf44d1fe8 be8144fcf44d1fe9",
+            two(calls::original_matrix(rule, &screen, 81).unwrap()),
+        );
+        sheet.line(
+            &format!("the same cells that are due, rule {rule}"),
+            "be8144fcf44d1fe8 be8144fcf44d1fe8",
+            two(calls::matrix(rule, &screen, 81).unwrap()),
+        );
+    }
+    let given: Vec<f64> = (0..81).map(f64::from).collect();
+    let moved = calls::move_node(1, &screen, &given, 0, [0.1, 0.2, 0.3]).unwrap();
+    let named = |k: usize| [0, 1, 3].contains(&(k / 9)) || [0, 1, 3].contains(&(k % 9));
+    let kept = (0..81).filter(|&k| !named(k) && moved.matrix[k] == given[k]).count();
+    sheet.line("given 0 to 80, cells not named that a move keeps", "36", kept);
+    let energies = [[0.0, 1.0, 0.0, 0.0], [0.0, 0.0, 1.0, 0.0]].map(|cells| calls::energy1(&cells, &[1.0, 1.0]));
+    sheet.line(
+        "energies of 0 1 0 0 and 0 0 1 0, values 1 1",
+        "[Ok(0.5), Ok(0.5)]",
+        format!("{energies:?}"),
+    );
+    small_matrices(sheet);
+}
+
+/// The matrices that are due of small meshes beside the original's own, and moves from them.
+fn small_matrices(sheet: &mut Sheet) {
+    let (mut apart, mut above, mut below, mut moves) = (0, 0, 0, vec![]);
+    for (mesh, rule) in meshes(1, MESHES).zip((1..=5).cycle()) {
+        let n = mesh.nodes();
+        let Ok(original) = calls::original_matrix(rule, &mesh, n * n) else {
+            continue;
+        };
+        let due = calls::matrix(rule, &mesh, n * n).unwrap();
+        for (a, b) in (0..n * n).map(|k| (k / n, k % n)) {
+            let differs = due[a * n + b].to_bits() != original[a * n + b].to_bits();
+            above += (a <= b && differs) as usize;
+            below += (a > b && differs) as usize;
+            apart += (due[a * n + b].to_bits() != due[b * n + a].to_bits()) as usize;
+        }
+        moves.extend((0..n).filter_map(|node| ends_fresh(rule, &mesh, &due, node)));
+    }
+    let otherwise = moves.iter().filter(|fresh| !**fresh).count();
+    println!(
+        "{below} cells below the diagonal are not the original's, {} moves",
+        moves.len()
+    );
+    sheet.line("below the diagonal some are not the original's", "true", below > 0);
+    sheet.line("on and above it cells that are not", "0", above);
+    sheet.line("cells that are not their transposed ones", "0", apart);
+    sheet.line("moves that do not end in the moved mesh's", "0", otherwise);
+}
+
+/// Whether a small move of a node, from the matrix due, ends in the one due of the moved mesh; none if it is refused.
+fn ends_fresh(rule: u64, mesh: &Mesh, due: &[f64], node: usize) -> Option<bool> {
+    let place = mesh.node(node).map(|x| x + 0.125);
+    let moved = calls::move_node(rule, mesh, due, node, place).ok()?;
+    let fresh = calls::matrix(rule, &moved.mesh, due.len()).ok()?;
+    let mut pairs = moved.matrix.into_iter().zip(fresh);
+    Some(pairs.all(|(a, b)| canonical(a) == canonical(b)))
 }
 
 /// The command under which the oracle starts itself to have its standard error read.

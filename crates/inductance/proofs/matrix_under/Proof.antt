@@ -9,7 +9,7 @@ use Rattle.inductance.proofs.matrix_under.Statement.{statement}
 use Rattle.inductance.proofs.matrix_under.Tie as tie
 
 returns : tie.Need-returns
-returns c = record { refusal = c .before .sized-refusal .ensures; cells = sym (after-refused _ _ _ (c .if1 .taken)) }
+returns c = let h = c .if1 .taken in record { refusal = c .before .sized-refusal .ensures; cells = sym (after-refused _ _ _ h); symmetric = λ z. absurd (h z) }
 
 renew-requires : tie.Need-renew-requires
 renew-requires c κs =

@@ -4,6 +4,8 @@ use denote.Ref.{now}
 use Rattle.mesh.specs.Mesh.{Mesh, meshOf}
 use Rattle.coupling.specs.Block.{mutualInductanceBlock}
 use Rattle.inductance.specs.Matrix.{cell, matrix}
+use Rattle.inductance.proofs.Mirror.{cell-turned}
+use Rattle.node_move.specs.Move.{moved}
 use Rattle.node_move.proofs.Laws.{move-fresh}
 use Rattle.node_move.proofs.Refused.{ready, matrix-long, due-under, claim-refused, claim-done}
 use Rattle.node_move.proofs.move_under.Statement.{statement}
@@ -39,7 +41,7 @@ returns-2 c =
     let a = c24 .before .args in
     let m : Mesh = meshOf (now (a .x)) (now (a .y)) (now (a .z)) (now (a .t0)) (now (a .t1)) (now (a .t2)) in
     let f = mutualInductanceBlock (a .kind) in
-    claim-done Unit (cell f) (matrix f) _ m (now (a .out)) (a .v) (a .px) (a .py) (a .pz) (due-under m (now (a .out)) (a .v) (a .px) (a .py) (a .pz)) (matrix-long f m) _ _ _ (move-fresh f m (a .v) (a .px) (a .py) (a .pz)) (sym (c12 .before .if1 .left) ∙ c12 .before .before .place-refusal .ensures) (c8 .move-accepted .ensures)
+    claim-done Unit (cell f) (matrix f) _ m (now (a .out)) (a .v) (a .px) (a .py) (a .pz) (due-under m (now (a .out)) (a .v) (a .px) (a .py) (a .pz)) (matrix-long f m) _ _ _ (cell-turned f (moved m (a .v) (a .px) (a .py) (a .pz))) (move-fresh f m (a .v) (a .px) (a .py) (a .pz)) (sym (c12 .before .if1 .left) ∙ c12 .before .before .place-refusal .ensures) (c8 .move-accepted .ensures)
 
 pub move-under-spec : {M : Type 1} → statement M
 move-under-spec =

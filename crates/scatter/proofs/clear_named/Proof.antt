@@ -1,20 +1,15 @@
--- The rows above `row` are cleared; `clear-turn` and `clear-end` say this of a loop that fills the matrix row by row.
-use mathlib.Core.Path.{_≡_, refl, sym, ap, _∙_}
-use Prim.Native.Nat.{_≤_, _+_, _-_, _*_}
-use native.Mathlib.Nat.{zero-mul}
-use native.Mathlib.Omega.{arith}
+-- The rows above `row` are cleared; `clear-turn` says this of a row more.
+use Prim.Native.Nat.{_-_}
 use denote.Ref.{now}
-use lib.ListN.{length}
-use Rattle.lists.specs.Filling.{filled}
-use Rattle.lists.proofs.Filling.{fill-start, column-long}
+use Rattle.binary64.specs.Binary64.{plusZero}
 use Rattle.scatter.specs.Renewal.{marked}
-use Rattle.scatter.proofs.Clearing.{clearedAt, clear-turn, clear-end, rows-fit}
+use Rattle.scatter.proofs.Rows.{RowsRenewed, rows-begun, row-ready, rows-done, clear-turn}
 use borrow.Author.Needs.{needs}
 use Rattle.scatter.proofs.clear_named.Statement.{statement}
 use Rattle.scatter.proofs.clear_named.Tie as tie
 
 abbrev Inv-loop : tie.InvT-loop
-Inv-loop out₀ n marks links row₀ out row = (row ≤ n) × (length out ≡ length out₀) × (out ≡ filled out₀ (n * n) (clearedAt (marked marks) n out₀) (row * n))
+Inv-loop out₀ n marks links row₀ out row = RowsRenewed (marked marks) (λ a b. plusZero) n out₀ row out
 
 abbrev μ-loop : tie.MeasureT-loop
 μ-loop out₀ n marks links row₀ out row = n - row
@@ -25,18 +20,14 @@ link-marked-requires c κs = let w = c .before .before .before .pre in (w .enoug
 loop-holds : tie.Need-loop-holds Inv-loop μ-loop
 loop-holds c =
     let c4 = c .before .before .before .before in
-    let a = c4 .before .args in
-    let g = clearedAt (marked (now (a .marks))) (a .n) (now (a .out)) in
-    (omega arith, refl, fill-start (now (a .out)) (a .n * a .n) g ∙ ap (filled (now (a .out)) (a .n * a .n) g) (sym (zero-mul (a .n))))
+    rows-begun (c4 .before .pre .cells)
 
 clear-row-requires : tie.Need-clear-row-requires Inv-loop μ-loop
 clear-row-requires c κs =
     let c4 = c .before .before .before .before in
     let c8 = c4 .before .before .before .before in
-    let w = c8 .before .pre in
-    let l = c .before .before .before .loop in
-    let long : length (c4 .before .link-marked .last .1 .1 .0) ≡ 4096 = search needs in
-    (record { small = w .small; cells = l .inv .1 ∙ w .cells; enough = w .enough }, (c .before .before .loop-test .taken, rw long (w .small), c4 .before .link-marked .ensures))
+    let links = c4 .before .link-marked .last .1 .1 .0 in
+    row-ready (now (c8 .before .args .marks)) links (c .before .before .before .loop .inv) (c8 .before .pre) (c .before .before .loop-test .taken) (search needs) (c4 .before .link-marked .ensures)
 
 loop-less : tie.Need-loop-less Inv-loop μ-loop
 loop-less c = search needs
@@ -44,25 +35,13 @@ loop-less c = search needs
 loop-again : tie.Need-loop-again Inv-loop μ-loop
 loop-again c =
     let c4 = c .before .before .before .before in
-    let c8 = c4 .before .before .before .before in
-    let c12 = c8 .before .before .before .before in
-    let w = c12 in
-    let a = w .args in
-    let l = c4 .before .before .loop in
-    let h = c4 .before .loop-test .taken in
-    let e = clear-turn (marked (now (a .marks))) (a .n) (now (a .out)) (w .pre .cells) (l .row) (l .out) h (l .inv .2) (c .before .before .clear-row .ensures) in
-    (omega (arith, h), column-long (now (a .out)) _ (a .n * a .n) (clearedAt (marked (now (a .marks))) (a .n) (now (a .out))) ((l .row + 1) * a .n) (w .pre .cells) (rows-fit (l .row + 1) (a .n) (omega (arith, h))) e, e)
+    clear-turn (c4 .before .before .loop .inv) (c4 .before .loop-test .taken) (c .before .before .clear-row .ensures)
 
 same-length : tie.Need-same-length Inv-loop μ-loop
-same-length c = c .before .loop .inv .1
+same-length c = c .before .loop .inv .long
 
 returns : tie.Need-returns Inv-loop μ-loop
-returns c =
-    let c4 = c .before .before .before .before in
-    let w = c4 .before .before .before in
-    let a = w .args in
-    let l = c .before .loop in
-    clear-end (marked (now (a .marks))) (a .n) (now (a .out)) (w .pre .cells) (l .row) (l .out) (omega (arith, c .loop-test .left, l .inv .0)) (l .inv .2)
+returns c = rows-done (c .before .loop .inv) (c .loop-test .left)
 
 pub clear-named-spec : {M : Type 1} → statement M
 clear-named-spec =

@@ -14,7 +14,8 @@ pub(super) const COMMAND: Command = Command {
 usage: screens matrix FILE --rule N -o OUT.npy
 
 Computes the inductance matrix (henries) of a panel file and writes it as a NumPy file: float64, n rows of n, for n nodes.
-N is the quadrature rule of far pairs, from 1 (one point, fastest) to 5 (seven points). Near pairs do not depend on it.
+Cell (b, a) below the diagonal is a copy of cell (a, b). N is the quadrature rule of far pairs, from 1 (one point, fastest) to
+5 (seven points). Near pairs do not depend on it.
 
   screens matrix examples/plate.pnl --rule 3 -o plate.npy
 

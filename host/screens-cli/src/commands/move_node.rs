@@ -6,6 +6,7 @@ use crate::files::Output;
 use crate::npy::Matrix;
 use crate::panels;
 use std::ffi::{OsStr, OsString};
+use std::io::Write;
 use std::path::{Path, PathBuf};
 
 pub(super) const COMMAND: Command = Command {
@@ -17,6 +18,9 @@ Moves node K of a panel file to the place X Y Z (metres), and renews the cells o
 node of its panels: if MATRIX.npy was the matrix of FILE under rule N, OUT.npy is that of the moved screen, bit for bit, in a
 part of the time. --mesh-out writes the moved panel file too, so that a run of moves can go on from both. An output may be the
 input's own name. Both outputs are complete before either takes its place.
+
+The renewed cells become the moved screen's and all others keep their numbers, so a symmetric matrix stays symmetric. If cells
+of MATRIX.npy below the diagonal differ from their mirror, a note on standard error says how many.
 
   screens move examples/plate.pnl plate.npy --node 144 --to 0.5 0.5 0.01 --rule 3 -o plate.npy --mesh-out moved.pnl
   screens move moved.pnl plate.npy --node 145 --to 0.56 0.5 0.01 --rule 3 -o plate.npy --mesh-out moved.pnl
@@ -35,12 +39,16 @@ fn run(words: Vec<OsString>) -> Result<String, Failure> {
     let (out, mesh_out) = (args.output()?, args.option_path("--mesh-out"));
     let mut mesh = panels::read(&path)?;
     let mut matrix = Matrix::read(&matrix_path)?;
+    // of the matrix as it was given: the move makes some of these cells alike
+    let note = matrix.mirror_note();
     let at = usize::try_from(node).unwrap_or(usize::MAX);
     let count = mesh
         .move_node(rule, &mut matrix.cells, at, place)
         .map_err(|refusal| Failure::Refused(format!("{}: move of node {node}", path.display()), refusal))?;
     let moved = mesh.to_panel_file();
     write(&out, &matrix, mesh_out.as_ref(), &moved)?;
+    // Nothing is left to do if standard error is closed.
+    let _ = std::io::stderr().write_all(note.as_bytes());
     let also = mesh_out
         .map(|path| format!(" and {}", path.display()))
         .unwrap_or_default();

@@ -1,5 +1,5 @@
-/* Calls every function of screens.h once with a known answer, and once for each refusal that only a C caller can ask for.
-   Prints a line a failed check; the exit status is 1 if there is one. */
+/* Calls every function of screens.h once with a known answer, and once for each refusal that only a C caller can ask for; of
+   matrix and move it looks at every cell of a small screen. Prints a line a failed check; the exit status is 1 if there is one. */
 #include "screens.h"
 #include <math.h>
 #include <stdio.h>
@@ -171,11 +171,100 @@ static void meshes(void) {
     CHECK(screens_mesh_inductance_matrix(3, MESH, fresh, 16) == 0 && memcmp(matrix, fresh, sizeof fresh) == 0);
 }
 
+/* nodes (i, j, 0) for i and j below 3, node i + 3j, each square cut in two */
+static double gx[9], gy[9], gz[9], cells[81], due[81];
+static size_t g0[8], g1[8], g2[8];
+#define GRID gx, 9, gy, 9, gz, 9, g0, 8, g1, 8, g2, 8
+
+static void make_grid(void) {
+    size_t p = 0;
+    for (size_t k = 0; k < 9; k++) {
+        gx[k] = (double)(k % 3);
+        gy[k] = (double)(k / 3);
+        gz[k] = 0;
+        if (k % 3 == 2 || k / 3 == 2)
+            continue;
+        g0[p] = k, g1[p] = k + 1, g2[p] = k + 3, p++;
+        g0[p] = k + 1, g1[p] = k + 4, g2[p] = k + 3, p++;
+    }
+}
+
+static int alike(const double *a, const double *b) {
+    return memcmp(a, b, sizeof *a) == 0;
+}
+
+static int symmetric(const double *m, size_t n) {
+    for (size_t k = 0; k < n * n; k++)
+        if (!alike(m + k, m + k % n * n + k / n))
+            return 0;
+    return 1;
+}
+
+/* the two cells of a shared edge */
+static void mirrors(void) {
+    const char *bits = "\xe8\x1f\x4d\xf4\xfc\x44\x81\xbe";
+    make_grid();
+    for (uint32_t rule = 1; rule <= 5; rule++) {
+        CHECK(screens_mesh_inductance_matrix(rule, GRID, cells, 81) == 0 && symmetric(cells, 9));
+        CHECK(memcmp(cells + 1 * 9 + 4, bits, 8) == 0 && memcmp(cells + 4 * 9 + 1, bits, 8) == 0);
+    }
+}
+
+/* whether a panel of node v has node k */
+static int in_ring(size_t v, size_t k) {
+    for (size_t p = 0; p < 8; p++)
+        if ((g0[p] == v || g1[p] == v || g2[p] == v) && (g0[p] == k || g1[p] == k || g2[p] == k))
+            return 1;
+    return 0;
+}
+
+static uint32_t move_grid(size_t v, double *matrix, size_t *count) {
+    return screens_move_node(2, GRID, matrix, 81, v, gx[v] + 0.1, gy[v] - 0.2, gz[v] + 0.3, count);
+}
+
+/* moves on any numbers: named cells are renewed, each other keeps its own number */
+static void moves_on_any_numbers(void) {
+    for (size_t v = 0; v < 9; v++) {
+        size_t count = 0, r = 0;
+        make_grid();
+        fill(cells, 81);
+        for (size_t k = 0; k < 9; k++)
+            r += (size_t)in_ring(v, k);
+        CHECK(move_grid(v, cells, &count) == 0 && count == 2 * 9 * r - r * r);
+        CHECK(screens_mesh_inductance_matrix(2, GRID, due, 81) == 0);
+        for (size_t k = 0; k < 81; k++) {
+            size_t a = k / 9, b = k % 9;
+            if (in_ring(v, a) || in_ring(v, b))
+                CHECK(alike(cells + k, due + k) && alike(cells + k, cells + b * 9 + a));
+            else
+                CHECK(cells[k] == 7 + (double)k);
+        }
+    }
+}
+
+static void moves_keep_symmetry(void) {
+    size_t count;
+    for (size_t v = 0; v < 9; v++) {
+        make_grid();
+        for (size_t k = 0; k < 81; k++)
+            cells[k] = 7 + (double)(k / 9 + k % 9) + (double)(k / 9 * (k % 9));
+        CHECK(move_grid(v, cells, &count) == 0 && symmetric(cells, 9));
+    }
+    CHECK(screens_mesh_inductance_matrix(2, GRID, cells, 81) == 0);
+    for (size_t k = 0; k < 60; k++) {
+        size_t v = 5 * k % 9;
+        double px = gx[v] + 0.05 * (double)(k % 3) - 0.05, py = gy[v] + 0.04 * (double)(k % 5) - 0.08;
+        CHECK(screens_move_node(2, GRID, cells, 81, v, px, py, gz[v] + 0.01, &count) == 0 && symmetric(cells, 9));
+    }
+    CHECK(screens_mesh_inductance_matrix(2, GRID, due, 81) == 0 && memcmp(cells, due, sizeof due) == 0);
+}
+
 static void matrices(void) {
     double identity[] = {1, 0, 0, 1}, map[] = {1, 2, 3, 4}, s[] = {3, 4}, k[] = {5, 6}, ones[] = {1, 1}, v[2], value;
     size_t offset, length;
     CHECK(screens_mesh_inductance_from_potentials(identity, 4, s, 2, ones, 2, &value) == 0 && value == 7);
     CHECK(screens_mesh_inductive_energy(identity, 4, s, 2, &value) == 0 && value == 12.5);
+    CHECK(screens_mesh_inductive_energy(map, 4, ones, 2, &value) == 0 && value == 5);
     CHECK(screens_mesh_flux_linkage(map, 4, k, 2, v, 2) == 0 && v[0] == 17 && v[1] == 39);
     CHECK(screens_mesh_interaction_energy(map, 4, ones, 2, k, 2, &value) == 0 && value == 56);
     CHECK(screens_matrix_row(map, 4, 2, 1, &offset, &length) == 0 && offset == 2 && length == 2);
@@ -219,6 +308,9 @@ int main(void) {
     panels();
     pairs();
     meshes();
+    mirrors();
+    moves_on_any_numbers();
+    moves_keep_symmetry();
     matrices();
     files();
     printf("%d checks, %d failed\n", checks, failed);

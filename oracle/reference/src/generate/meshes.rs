@@ -191,6 +191,20 @@ pub fn sheet(r: &mut Rng, nodes: usize) -> Mesh {
     mesh
 }
 
+/// The screen of nodes (i, j, 0), i and j from 0 to 2, each square cut in two: cells (1, 4) and (4, 1) of its matrix part in the
+/// original.
+pub fn three_by_three() -> Mesh {
+    let mut mesh = Mesh::default();
+    for k in 0..9 {
+        mesh.add_node([(k % 3) as f64, (k / 3) as f64, 0.0]);
+    }
+    for k in [0, 1, 3, 4] {
+        mesh.add_panel([k, k + 1, k + 3]);
+        mesh.add_panel([k + 1, k + 4, k + 3]);
+    }
+    mesh
+}
+
 /// So many nodes, and one panel so many times.
 pub fn filled(nodes: usize, panels: usize) -> Mesh {
     let mut mesh = Mesh::default();

@@ -7,6 +7,7 @@ pub mod stored;
 use crate::calls::{self, Mesh};
 use crate::eval::{self, Out, eval};
 use crate::rng::Rng;
+pub use meshes::three_by_three;
 use meshes::{filled, length_near, mesh, rule};
 use numbers::values;
 use panels::{Style, pair, point, point_near, style, triangle};
@@ -111,14 +112,14 @@ pub fn one(kind: u32, r: &mut Rng) -> Vec<u64> {
         "energy2" => {
             let n = r.index(6);
             let (k, cells) = (length_near(r, n), length_near(r, n * n));
-            o.numbers(&values(r, cells))
+            o.numbers(&any_matrix(r, cells, n))
                 .numbers(&values(r, n))
                 .numbers(&values(r, k))
         }
         "energy1" => {
             let n = r.index(6);
             let cells = length_near(r, n * n);
-            o.numbers(&values(r, cells)).numbers(&values(r, n))
+            o.numbers(&any_matrix(r, cells, n)).numbers(&values(r, n))
         }
         "flux" | "interaction" => map_work(kind, r, o),
         "move" => moved(r, o),
@@ -190,15 +191,38 @@ fn map_work(kind: u32, r: &mut Rng, o: Out) -> Out {
     }
 }
 
-/// A move: the matrix handed in is the mesh's own or any numbers.
+/// Makes a matrix of n by n numbers symmetric as often as not. Drawn beside the stream: what else a case has does not depend on it.
+fn mirror_some(r: &Rng, cells: &mut [f64], n: usize) {
+    let mut beside = Rng(!r.0);
+    if cells.len() == n * n && beside.one_in(2) {
+        calls::mirror(cells, n);
+    }
+}
+
+/// Any numbers; where they are n by n, symmetric as often as not.
+fn any_matrix(r: &mut Rng, length: usize, n: usize) -> Vec<f64> {
+    let mut cells = values(r, length);
+    mirror_some(r, &mut cells, n);
+    cells
+}
+
+/// A matrix for a move: the original's own of the mesh or any numbers, and either made symmetric or not.
+fn handed_in(r: &mut Rng, rule: u64, mesh: &Mesh, length: usize) -> Vec<f64> {
+    let n = mesh.nodes();
+    let mut cells = match calls::original_matrix(rule, mesh, n * n) {
+        Ok(own) if length == n * n && r.one_in(2) => own,
+        _ => values(r, length),
+    };
+    mirror_some(r, &mut cells, n);
+    cells
+}
+
+/// A move of any node to a place near, far or another node's.
 fn moved(r: &mut Rng, o: Out) -> Out {
     let mesh = meshes::damaged_one_in(r, 10, 8, 7);
     let (n, rule) = (mesh.nodes(), rule(r));
     let length = if r.one_in(10) { length_near(r, n * n) } else { n * n };
-    let given = match calls::matrix(rule, &mesh, n * n) {
-        Ok(fresh) if length == n * n && r.one_in(2) => fresh,
-        _ => values(r, length),
-    };
+    let given = handed_in(r, rule, &mesh, length);
     let node = if n == 0 || r.one_in(15) {
         n + r.index(2)
     } else {

@@ -90,10 +90,11 @@ fn answered(name: &str, input: Out, number: u64) -> Case {
     (kind, input.0, results)
 }
 
-/// Accepted matrices and moves: for each count of nodes and each time a matrix, then a move, with the rules in turn.
+/// Accepted matrices and moves: for each count of nodes and each time a matrix, then a move, with the rules in turn. A move is
+/// given the original's own matrix or any numbers; of either the first is made symmetric, and then every other one.
 fn larger(counts: &[usize], times: usize) -> Vec<Case> {
     let mut r = Rng(SEED);
-    let (mut cases, mut rule) = (vec![], 0);
+    let (mut cases, mut rule, mut symmetric) = (vec![], 0, [false; 2]);
     for nodes in counts.repeat(times) {
         let mesh = meshes::sheet(&mut r, nodes);
         rule = rule % 5 + 1;
@@ -101,11 +102,16 @@ fn larger(counts: &[usize], times: usize) -> Vec<Case> {
         let input = Out::default().word(rule).mesh(&mesh);
         cases.push(answered("matrix", input.size(cells), 0));
         let mesh = meshes::sheet(&mut r, nodes);
-        // the mesh's own, or any numbers
-        let given = match r.one_in(2) {
-            true => calls::matrix(rule, &mesh, cells).expect("an accepted mesh"),
+        let own = r.one_in(2);
+        let mut given = match own {
+            true => calls::original_matrix(rule, &mesh, cells).expect("an accepted mesh"),
             false => values(&mut r, cells),
         };
+        let turn = &mut symmetric[own as usize];
+        *turn = !*turn;
+        if *turn {
+            calls::mirror(&mut given, nodes);
+        }
         let node = r.index(nodes);
         let shift = point(&mut r, Style::Uniform);
         let place: [f64; 3] = std::array::from_fn(|k| mesh.node(node)[k] + 0.1 * shift[k]);

@@ -93,6 +93,8 @@ pub fn triangle_inductance_from_potential_vectors(m_block: [[f64; 3]; 3], s_src:
 
 /// Writes the inductance matrix (H) of a mesh, row by row, to n × n cells. Any other length is refused with 6.
 ///
+/// Cell (b, a) below the diagonal is a copy of cell (a, b), which is the original's, so the matrix is symmetric in every bit.
+///
 /// ```
 /// use screens::{QuadratureKind, Refusal, TriangleMeshView, triangle_mesh_inductance_matrix};
 ///
@@ -101,6 +103,7 @@ pub fn triangle_inductance_from_potential_vectors(m_block: [[f64; 3]; 3], s_src:
 /// let mut out = vec![0.0; 9];
 /// triangle_mesh_inductance_matrix(&mesh, QuadratureKind::Dunavant3, &mut out)?;
 /// assert!(out[0] > 0.0);
+/// assert_eq!(out[1].to_bits(), out[3].to_bits());
 /// assert_eq!(
 ///     triangle_mesh_inductance_matrix(&mesh, QuadratureKind::Dunavant3, &mut out[1..]),
 ///     Err(Refusal::Output)
@@ -128,6 +131,8 @@ pub fn triangle_mesh_inductance_matrix(
 /// Moves a node to a place (m): writes its coordinates, and makes every cell of the matrix whose row or column belongs to a node
 /// of the moved node's panels the moved mesh's own. If the matrix was the mesh's, it then is the moved mesh's, bit for bit.
 /// Yields the count of those cells.
+///
+/// All other cells keep their numbers, whatever these are; a symmetric matrix stays symmetric in every bit.
 ///
 /// Refused with 1, 2, 11, 3 or 4 for the mesh, 6 for a matrix of other than n × n cells, 13 for a node that is not below n, and 4
 /// if a panel of the moved mesh has no area. Columns and matrix are then as they were.
