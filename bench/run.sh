@@ -3,8 +3,8 @@
 # Proves and builds our static library, builds the original in SOURCE for any x86-64 and for this processor, and times ours,
 # the processor's own operations and the two builds of the original in one run. Prints a table. With `matrix` the table is of
 # fresh matrices and moves of whole screens, with `moves` runs of moves are compared cell by cell. With `record` it measures
-# the arithmetic, whole screens (rules 12345, 3 sizes and medians of 5 rounds if not said otherwise), stack and memory, prints the tables and
-# writes them to docs/PERFORMANCE.md between its two marks.
+# the arithmetic, whole screens (rules 12345, 3 sizes and medians of 5 rounds if not said otherwise), panel files, stack and memory, prints the
+# tables and writes them to docs/PERFORMANCE.md between its two marks.
 set -eu -o pipefail
 here=$(cd "$(dirname "$0")" && pwd)
 source=$(cd "${1:?usage: run.sh SOURCE [matrix | moves | record]}" && pwd)
@@ -21,10 +21,14 @@ driver() {
     "$here/build/original/target-native/release/libkernels.so" "$@"
 }
 
+# An example of the Rust crate.
+example() {
+  (cd "$here/../host" && cargo run -q --offline --release -p screens --example "$1")
+}
+
 # What the calls take beside time.
 footprint() {
-  (cd "$here/../host" && cargo build -q --offline --release -p screens --example footprint)
-  "$here/../host/target/release/examples/footprint"
+  example footprint
   printf '\nMemory: the caller'"'"'s buffers and no other. What the archive calls outside itself: '
   nm -u "$here/../target/staticlib/libscreens.a" | awk '$1 == "U" { print $2 }' | sort -u | paste -sd ' '
 }
@@ -36,6 +40,8 @@ tables() {
   driver
   printf '\n### Whole screens\n\nSeconds of thread time, medians of %s; spread is the widest of the three times of a row; the move is of a node in the middle.\n\n' "$3"
   driver matrix "$1" "$2" "$3"
+  printf '\n### Panel files\n\nMilliseconds a call on the largest file, the least of 40 measurements in turns.\n\n'
+  example file_times
   printf '\n### Stack and memory\n\n'
   footprint
 }

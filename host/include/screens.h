@@ -253,6 +253,13 @@ uint32_t screens_map_row(const double *map, size_t nmap, size_t sources, size_t 
 uint32_t screens_read_panel_file(const uint8_t *file, size_t nfile, double *x, size_t nx, double *y, size_t ny,
     double *z, size_t nz, size_t *t0, size_t nt0, size_t *t1, size_t nt1, size_t *t2, size_t nt2);
 
+/* Writes the panel file of a mesh: 9 + 24 * nodes + 6 * panels bytes. screens_read_panel_file gives back each
+   coordinate's bits, NaN counting as one number, and each index; a NaN is written as 7ff8000000000000. Refuses with 1,
+   2, 11, 3, 4, 6. */
+uint32_t screens_write_panel_file(const double *x, size_t nx, const double *y, size_t ny, const double *z, size_t nz,
+    const size_t *t0, size_t nt0, const size_t *t1, size_t nt1, const size_t *t2, size_t nt2, uint8_t *file,
+    size_t nfile);
+
 /* The display value of an inductance (henries): whole nanohenries, rounded once, halves away from zero. Refuses
    with 16. */
 uint32_t screens_display(double x, int64_t *value);

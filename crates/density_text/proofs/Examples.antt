@@ -4,7 +4,7 @@ use mathlib.Core.List.{List, [], _∷_, _++_}
 use Prim.Native.Nat.{ℕ}
 use Rattle.refusal.specs.Checks.{first}
 use lib.Ieee.{ofBits, toBits, add, sub, mul, div, lt, isNan}
-use Rattle.ieee754.specs.Ieee754.{fma, sqrt}
+use Rattle.ieee754.specs.Ieee754.{fma, sqrt, canonicalBits}
 use Rattle.binary64.specs.Operations.{squareRoot}
 use Rattle.math.specs.Math.{norm3, dot3, cross3, sub3}
 use Rattle.tri.specs.Mapping.{area, rawNormal}
@@ -14,7 +14,7 @@ use Rattle.lists.specs.Filling.{tabulateFrom}
 use Rattle.mesh.specs.Mesh.{passesLimits, missesNode, isZeroArea}
 use Rattle.panel_file.specs.LittleEndian.{littleEndian, rowsFrom}
 use Rattle.panel_file.specs.PanelFile.{nodalValue, coordinate, index, lengthDue, marksDiffer, lengthDiffers, fileChecks, fileRefusal}
-use Rattle.density_text.specs.Text.{decimal, panelLine, line, field, canonicalBits, nodalValues, firstLine, refusedLine, densities, text}
+use Rattle.density_text.specs.Text.{decimal, panelLine, line, field, nodalValues, firstLine, refusedLine, densities, text}
 
 -- "PNL", version 1, n nodes, p panels
 abbrev headed : ℕ → ℕ → List ℕ

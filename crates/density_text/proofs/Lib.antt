@@ -1,4 +1,4 @@
-pub mod Putting
+pub mod Counted
 pub mod Numerals
 pub mod Inputs
 pub mod Examples

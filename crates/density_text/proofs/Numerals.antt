@@ -12,7 +12,8 @@ use lib.Ieee.{Float}
 use lib.ListN.{length, length-append}
 use Rattle.binary64.specs.Binary64.{at}
 use Rattle.io.specs.Digits.{digits, Fewest}
-use Rattle.density_text.specs.Text.{decimal, canonicalBits, field, line, firstLine}
+use Rattle.ieee754.specs.Ieee754.{canonicalBits}
+use Rattle.density_text.specs.Text.{decimal, field, line, firstLine}
 
 -- the places of a number below 1,000
 places : ℕ → ℕ

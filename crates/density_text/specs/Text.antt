@@ -2,12 +2,12 @@
 use mathlib.Core.Path.{_≡_}
 use mathlib.Core.Bool.{cond}
 use mathlib.Core.List.{List, [], _∷_, _++_}
-use Prim.Native.Nat.{ℕ, _+_}
+use Prim.Native.Nat.{ℕ}
 use lib.Dec.{ltb, eqb}
-use lib.ListN.{length, take, drop}
-use lib.Ieee.{Float, binary64, isNan, toBits}
+use lib.Ieee.{Float}
 use Rattle.io.specs.Digits.{digits}
 use Rattle.binary64.specs.Binary64.{at}
+use Rattle.ieee754.specs.Ieee754.{canonicalBits}
 use Rattle.lists.specs.Filling.{tabulate}
 use Rattle.boundary_element.specs.CurrentDensity.{panelDensity}
 use Rattle.panel_file.specs.LittleEndian.{rowsFrom}
@@ -33,10 +33,6 @@ InputNumbered b r = FileTestNumbered maxNodes maxPanels 1 b r
 -- a number below 1,000 in decimal
 unfoldable pub decimal : ℕ → List ℕ
 decimal n = digits 10 (cond (ltb n 10) 1 (cond (ltb n 100) 2 3)) n
-
--- a number's bits, any NaN as 7ff8000000000000
-unfoldable pub canonicalBits : Float → ℕ
-canonicalBits x = cond (isNan x) 0x7ff8_0000_0000_0000 (toBits binary64 x)
 
 -- a space and the sixteen hexadecimal digits of a number's bits
 unfoldable pub field : Float → List ℕ
@@ -69,11 +65,7 @@ densities b = firstLine (nodeCount b) (panelCount b) ++ rowsFrom (panelLine b) 0
 unfoldable pub text : List ℕ → List ℕ
 text b = cond (eqb (inputRefusal b) 0) (densities b) (refusedLine (inputRefusal b))
 
--- ---- bytes put into a buffer at an index: what the buffer holds then, and the index behind them
-pub record Put (held : List ℕ) (from : ℕ) (bytes left : List ℕ) (to : ℕ) : Type 0 where
-  pub behind : to ≡ from + length bytes
-  pub leaves : left ≡ take from held ++ (bytes ++ drop (from + length bytes) held)
-
+-- ---- the input
 -- n and p are an accepted input's counts
 pub record Input (n p : ℕ) (b : List ℕ) : Type 0 where
   pub nodes : n ≡ nodeCount b

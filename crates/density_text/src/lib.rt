@@ -3,30 +3,19 @@ ghost use mathlib.Core.Path.{_≡_};
 ghost use Prim.Native.Nat.{_+_, _*_, _≤_, _<_};
 ghost use lib.ListN.{length};
 ghost use Rattle.lists.specs.Lent.{passed, left};
+ghost use Rattle.lists.specs.Putting.{Put};
 ghost use Rattle.io.specs.Counts.{Counts};
 ghost use Rattle.boundary_element.specs.CurrentDensity.{panelDensity};
 ghost use Rattle.panel_file.specs.LittleEndian.{rowsFrom};
 ghost use Rattle.panel_file.specs.PanelFile.{decode};
 ghost use Rattle.density_text.specs.Text as Spec;
-ghost use Rattle.density_text.specs.Text.{Put, Input};
+ghost use Rattle.density_text.specs.Text.{Input};
+use lists::put;
 
 // Document 01's limits of the program.
 const MAX_NODES: usize = 64;
 
 const MAX_PANELS: usize = 128;
-
-// Puts bytes into out from `from` on, and answers the index behind them.
-fn put(out: &mut [u8], from: usize, bytes: &[u8]) -> usize
-    requires { ⌜ from + length (now bytes) ≤ length (now out) ⌝ }
-    ensures { λ r. ⌜ Put (passed out) from (passed bytes) (left out) r ⌝ }
-{
-    let mut k = 0;
-    while k < bytes.len() {
-        out[from + k] = bytes[k];
-        k += 1;
-    }
-    from + k
-}
 
 // A number below 1,000 in decimal.
 fn put_decimal(out: &mut [u8], from: usize, n: usize) -> usize
@@ -38,23 +27,13 @@ fn put_decimal(out: &mut [u8], from: usize, n: usize) -> usize
     put(out, from, &digits[..k])
 }
 
-// A number's bits, any NaN as one.
-pub fn canonical_bits(x: f64) -> u64
-    ensures { λ r. ⌜ r ≡ Spec.canonicalBits x ⌝ }
-{
-    if ieee754::is_nan(x) {
-        return 0x7ff8_0000_0000_0000;
-    }
-    f64::to_bits(x)
-}
-
 // A space and a number's bits.
 fn put_field(out: &mut [u8], from: usize, x: f64) -> usize
     requires { ⌜ from + 17 ≤ length (now out) ⌝ }
     ensures { λ r. ⌜ Put (passed out) from (Spec.field x) (left out) r ⌝ }
 {
     let mut digits = [0u8; 16];
-    let k = io::hex(canonical_bits(x), 16, &mut digits);
+    let k = io::hex(ieee754::canonical_bits(x), 16, &mut digits);
     let to = put(out, from, b" ");
     put(out, to, &digits[..k])
 }

@@ -1,2 +1,4 @@
 pub mod Signs
 pub mod Bounded
+pub mod Patterns
+pub mod Theorems

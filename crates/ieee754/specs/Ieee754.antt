@@ -1,6 +1,7 @@
--- The Rust's `mul_add`, `sqrt`, `min`, `max`, `clamp`, `abs` and sign bit of an f64, which the toolchain's library lacks; `min`, `max` and `clamp` by document 01's words. Definitions only.
+-- The Rust's `mul_add`, `sqrt`, `min`, `max`, `clamp`, `abs` and sign bit of an f64, which the toolchain's library lacks; `min`, `max`, `clamp` and the bits of a NaN by document 01's words. Definitions only.
 use mathlib.Core.Bool.{Bool, false, cond}
-use lib.Ieee.{Float, nan, inf, fin, neg, lt, isNan}
+use Prim.Native.Nat.{ℕ}
+use lib.Ieee.{Float, nan, inf, fin, binary64, neg, lt, isNan, toBits}
 -- IEEE 754 fusedMultiplyAdd: `fma a b c` is a * b + c, rounded once
 unfoldable pub use Rattle.binary64.specs.Operations.{fma}
 -- IEEE 754 squareRoot
@@ -32,3 +33,7 @@ abs (fin s m e) = fin false m e
 -- r, or −r where the sign is to be set
 unfoldable pub signed : Bool → Float → Float
 signed s r = cond s (neg r) r
+
+-- a number's bits, any NaN as 7ff8000000000000
+unfoldable pub canonicalBits : Float → ℕ
+canonicalBits x = cond (isNan x) 0x7ff8_0000_0000_0000 (toBits binary64 x)

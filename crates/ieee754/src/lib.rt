@@ -104,3 +104,13 @@ pub fn abs(x: f64) -> f64
 {
     signed(is_sign_negative(x), x)
 }
+
+// A number's bits, any NaN as one.
+pub fn canonical_bits(x: f64) -> u64
+    ensures { λ r. ⌜ r ≡ Spec.canonicalBits x ⌝ }
+{
+    if is_nan(x) {
+        return 0x7ff8_0000_0000_0000;
+    }
+    f64::to_bits(x)
+}

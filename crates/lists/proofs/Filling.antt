@@ -28,6 +28,15 @@ module _ {A : Type 0} where
   pub tabulate-get : (d : A) (n : ℕ) (g : ℕ → A) (k : ℕ) → k < n → getD (tabulate n g) k d ≡ g k
   tabulate-get d n g k l = from-at d g 0 n k l ∙ ap g (zero-add k)
 
+  -- a list is given by its own elements
+  pub tabulate-all : (d : A) (l : List A) → tabulate (length l) (λ (k : ℕ). getD l k d) ≡ l
+  tabulate-all d l =
+      let g : ℕ → A = λ k. getD l k d in
+      ext-getD d (tabulate (length l) g) l (tabulate-length (length l) g)
+      (λ k m.
+      let h : k < length l = rw (tabulate-length (length l) g) at m in
+      tabulate-get d (length l) g k h)
+
   pub fill-start : (held : List A) (n : ℕ) (g : ℕ → A) → held ≡ filled held n g 0
   fill-start held n g = paste-zero held 0 (tabulate n g)
 

@@ -2,4 +2,5 @@ pub mod Columns
 pub mod Counting
 pub mod Filling
 pub mod Lent
+pub mod Putting
 pub mod Sums

@@ -6,6 +6,7 @@ use Rattle.replay_meshes.specs.Meshes.{meshesAgree}
 use Rattle.replay_maps.specs.Maps.{mapsAgree, rowsAgree}
 use Rattle.replay_maps.specs.Shown.{shownAgree}
 use Rattle.replay_files.specs.Files.{filesAgree}
+use Rattle.replay_writer.specs.Writer.{writerAgrees}
 use Rattle.replay_cases.specs.Case.{wordsOf, numbersOf, placesOf}
 
 -- a kind that is none of these agrees with nothing
@@ -13,4 +14,5 @@ unfoldable pub agrees : ℕ → List ℕ → Bool
 agrees kind b =
     let w = wordsOf b in
     let f = numbersOf w in
-    meshesAgree kind f (placesOf w) w || (mapsAgree kind f w || (rowsAgree kind f w || (shownAgree kind f w || filesAgree kind b w)))
+    let u = placesOf w in
+    meshesAgree kind f u w || (mapsAgree kind f w || (rowsAgree kind f w || (shownAgree kind f w || (filesAgree kind b w || writerAgrees kind b f u w))))

@@ -20,5 +20,6 @@ pub fn agrees(kind: u64, b: &[u8; 16384]) -> bool
     let d = rows::agree(kind, &f, &w);
     let e = shown::agree(kind, &f, &w);
     let g = replay_files::agree(kind, b, &w);
-    (a) | ((c) | ((d) | ((e) | (g))))
+    let h = replay_writer::agree(kind, b, &f, &u, &w);
+    (a) | ((c) | ((d) | ((e) | ((g) | (h)))))
 }

@@ -1,9 +1,10 @@
 -- Numbers of w bytes there and back: what was written is read (`own`, `fields-at`, `rows-at`), and what was read is written (`back`, `fields-back`, `rows-back`).
 -- One field, three fields in a row, rows one behind the other. Assumes nothing.
 use mathlib.Core.Path.{_≡_, refl, sym, ap, _∙_, subst}
-use mathlib.Core.List.{List, _∷_, _++_, append-assoc}
+use mathlib.Core.List.{List, _∷_, _++_, append-assoc, append-nil}
 use Prim.Native.Nat.{ℕ, zero, suc, _+_, _-_, _*_, _/_, _%_, _^_, _≤_, _<_}
-use native.Mathlib.Nat.{pow-suc, add-zero, zero-mul, suc-mul, add-comm, add-assoc, not-suc-le-zero}
+use native.Mathlib.Nat.{pow-suc, add-zero, zero-add, zero-mul, suc-mul, add-comm, add-assoc, not-suc-le-zero}
+use native.Mathlib.Numerals.{add-one}
 use native.Mathlib.Omega.{arith}
 use lib.ListN.{length, getD, take, drop, length-append, List·getD-append}
 use lib.Seq.{drop-cons, drop-drop, drop-at, drop-append-add, getD-drop, take-add}
@@ -126,3 +127,20 @@ module _ (row : ℕ → List ℕ) (v : ℕ) where
       (λ j. h i (omega arith) j ++ t j)
       ∙ sym (take-add v (c * v) (drop (o + i * v) f))
       ∙ ap (λ (x : ℕ). take x (drop (o + i * v) f)) (add-comm v (c * v) ∙ sym (suc-mul c v))
+
+-- ---- rows of any length
+row-more : (row : ℕ → List ℕ) (i c : ℕ) → rowsFrom row i c ++ row (i + c) ≡ rowsFrom row i (suc c)
+unfolding rowsFrom
+row-more row i zero = ap row (add-zero i) ∙ sym (append-nil (row i))
+row-more row i (suc c) =
+    let e : i + suc c ≡ suc i + c = omega arith in
+    append-assoc (row i) (rowsFrom row (suc i) c) (row (i + suc c)) ∙ ap (λ (x : List ℕ). row i ++ x) (ap (λ (k : ℕ). rowsFrom row (suc i) c ++ row k) e ∙ row-more row (suc i) c)
+
+pub more-rows : (row : ℕ → List ℕ) (c : ℕ) → rowsFrom row 0 c ++ row c ≡ rowsFrom row 0 (c + 1)
+more-rows row c = ap (λ (k : ℕ). rowsFrom row 0 c ++ row k) (sym (zero-add c)) ∙ row-more row 0 c ∙ ap (rowsFrom row 0) (sym (add-one c))
+
+-- of at most w bytes each
+pub rows-bound : (row : ℕ → List ℕ) (w : ℕ) → ((k : ℕ) → length (row k) ≤ w) → (i c : ℕ) → length (rowsFrom row i c) ≤ c * w
+unfolding rowsFrom
+rows-bound row w h i zero = omega arith
+rows-bound row w h i (suc c) = omega (arith, length-append (row i) (rowsFrom row (suc i) c), h i, rows-bound row w h (suc i) c, suc-mul c w)

@@ -6,16 +6,17 @@ use mathlib.Core.List.{List, [], _∷_, _++_}
 use Prim.Native.Nat.{ℕ}
 use lib.Dec.{T}
 use Rattle.refusal.specs.Checks.{Check, check, first, Clear, lacks}
-use Rattle.refusal.proofs.Checks.{none-applies, applies-first}
+use Rattle.refusal.specs.Numbers.{outputLength}
+use Rattle.refusal.proofs.Checks.{none-applies, applies-first, clear-parts}
 use Rattle.mesh.specs.Conditions.{Accepted}
 use Rattle.lists.proofs.Filling.{tabulate-length}
 use Rattle.mesh.specs.Mesh.{someMissesNode, someZeroArea, passesLimits}
 use Rattle.refusal.proofs.Tests.{on}
 use Rattle.mesh.proofs.Refusals.{missing-off, missing-on, area-off, area-on}
-use Rattle.panel_file.specs.PanelFile.{nodeCount, panelCount, coordinate, index, decode, marksDiffer, lengthDiffers, fileChecks, fileRefusal}
-use Rattle.panel_file.specs.Conditions.{AcceptedFile, FileNumbered, FileTestNumbered}
+use Rattle.panel_file.specs.PanelFile.{nodeCount, panelCount, coordinate, index, decode, marksDiffer, lengthDiffers, fileChecks, fileRefusal, Lengths, meshColumnsDiffer, readRefusal}
+use Rattle.panel_file.specs.Conditions.{MeshColumnsDue, AcceptedFile, FileNumbered, FileTestNumbered}
 use Rattle.panel_file.proofs.Decoded.{nodes, panels}
-use Rattle.panel_file.proofs.Accepted.{marks-off, limits-off, due-off}
+use Rattle.panel_file.proofs.Accepted.{marks-off, limits-off, due-off, mesh-columns-off}
 
 module _ (n p extra : ℕ) (b : List ℕ) where
   abbrev pub c14 : Check
@@ -97,3 +98,16 @@ module _ (n p extra : ℕ) (b : List ℕ) where
 pub file-test-numbered : (n p extra : ℕ) (b : List ℕ) → FileTestNumbered n p extra b (fileRefusal n p extra b)
 unfolding fileRefusal fileChecks
 file-test-numbered n p extra b = record { file = file-numbered n p extra b [] tt tt tt tt tt; is-0 = file-accepted n p extra b }
+
+-- the reader's call: nothing of the file's and columns of its counts
+pub read-accepted : (n p : ℕ) (b : List ℕ) (l : Lengths) → (readRefusal n p b l ≡ 0) ↔ (AcceptedFile n p 0 b × MeshColumnsDue b l)
+unfolding readRefusal fileChecks
+read-accepted n p b l =
+    let file = c14 n p 0 b ∷ c11 n p 0 b ∷ c15 n p 0 b ∷ c3 n p 0 b ∷ c4 n p 0 b ∷ [] in
+    let columns = check outputLength (meshColumnsDiffer b l) ∷ [] in
+    let w = none-applies (file ++ columns) tt in
+    let parts = clear-parts file columns in
+    let o = mesh-columns-off b l in (
+      (λ e. let v = parts .0 (w .0 e) in (accepted n p 0 b (v .0), o .0 (v .1 .0))),
+      λ h. w .1 (parts .1 (cleared n p 0 b (h .0), (o .1 (h .1), tt))),
+    )

@@ -1,199 +1,14 @@
--- A mesh that was written is read again, and a file that was read is written again: what the reader and a later writer owe each other. The header, the rows of nodes and the rows of panels
--- are each found at their places (`there`), and each is the stretch of the file that it was read from (`again`). Assumes nothing.
-use mathlib.Core.Path.{_≡_, refl, sym, ap, _∙_, subst}
-use mathlib.Core.Bool.{Bool, not}
-use mathlib.Core.List.{List, [], _∷_, _++_, append-nil}
-use Prim.Native.Nat.{ℕ, suc, _+_, _-_, _*_, _^_, _≤_, _<_}
-use native.Mathlib.Nat.{le-of-eq, zero-add, zero-mul}
-use native.Mathlib.Omega.{arith}
-use lib.Dec.{T}
-use lib.ListN.{length, getD, take, drop}
-use lib.Seq.{drop-append-add, drop-cons, drop-drop, take-add, take-all, ext-getD}
-use lib.Ieee.{Float, nan, binary64, fits, toBits}
-use lib.Ieee.Bits.{ofBits-toBits, toBits-lt, toBits-ofBits, nanBits-is}
-use Rattle.binary64.specs.Binary64.{bits, at}
-use Rattle.lists.specs.Filling.{tabulate}
-use Rattle.lists.proofs.Filling.{tabulate-length, tabulate-get}
-use Rattle.mesh.specs.Mesh.{Mesh, meshOf, nnode, ntri}
-use Rattle.mesh.specs.Conditions.{Accepted}
-use Rattle.panel_file.specs.LittleEndian.{littleEndian, threeFields, rowsFrom}
-use Rattle.panel_file.specs.PanelFile.{version, lengthDue, coordinatePlace, indexPlace, nodeCount, panelCount, coordinate, index, decode, encodeHeader, encodeNode, encodePanel, encode, Held, NoNan, Bytes, fileRefusal, fileChecks, Lengths, meshColumnsDiffer, readRefusal}
-use Rattle.panel_file.proofs.Numbers.{bound}
-use Rattle.panel_file.proofs.Decoded.{nodes, panels}
-use Rattle.panel_file.proofs.Accepted.{Clean, clean, marked, length-due, mesh-columns-off}
-use Rattle.panel_file.proofs.Fields.{Three, fields-length, fields-at, fields-back, rows-length, rows-at, rows-back}
+-- The reader's number by its conditions: 6 stands behind the file's five.
+use mathlib.Core.List.{List, [], _∷_}
+use Prim.Native.Nat.{ℕ}
 use Rattle.refusal.specs.Numbers.{outputLength}
 use Rattle.refusal.specs.Checks.{check}
-use Rattle.refusal.proofs.Checks.{none-applies, applies-first}
+use Rattle.refusal.proofs.Checks.{applies-first}
 use Rattle.refusal.proofs.Tests.{on}
+use Rattle.panel_file.specs.PanelFile.{fileChecks, Lengths, meshColumnsDiffer, readRefusal}
 use Rattle.panel_file.specs.Conditions.{ReadNumbered}
-use Rattle.panel_file.proofs.Refusals.{c14, c11, c15, c3, c4, file-numbered, accepted, cleared}
-
--- ---- written, then read
-module _ (m : Mesh) (n p : ℕ) (ok : Accepted n p m) (small-n : n < 2 ^ 16) (small-p : p < 2 ^ 16) (held : Held m) where
-  abbrev file : List ℕ
-  file = encode m
-
-  abbrev nodeRows : List ℕ
-  nodeRows = rowsFrom (encodeNode m) 0 (nnode m)
-
-  abbrev panelRows : List ℕ
-  panelRows = rowsFrom (encodePanel m) 0 (ntri m)
-
-  few-nodes : nnode m < 256 ^ 2
-  few-nodes = omega (arith, ok .limits .few-nodes)
-
-  few-panels : ntri m < 256 ^ 2
-  few-panels = omega (arith, ok .limits .few-panels)
-
-  counts : Three 2 file 3 version (nnode m) (ntri m)
-  unfolding encode encodeHeader
-  counts = fields-at 2 file 3 version (nnode m) (ntri m) (nodeRows ++ panelRows) (omega arith) few-nodes few-panels refl
-
-  header-length : length (encodeHeader (nnode m) (ntri m)) ≡ 9
-  unfolding encodeHeader
-  header-length = ap (λ (x : ℕ). suc (suc (suc x))) (fields-length 2 version (nnode m) (ntri m))
-
-  behind-header : (x : ℕ) → drop (9 + x) file ≡ drop x (nodeRows ++ panelRows)
-  unfolding encode
-  behind-header x = ap (λ (k : ℕ). drop (k + x) file) (sym header-length) ∙ drop-append-add (encodeHeader (nnode m) (ntri m)) (nodeRows ++ panelRows) x
-
-  pattern : (x : Float) → T (fits binary64 x) → toBits binary64 x < 256 ^ 8
-  pattern x h = toBits-lt binary64 x h
-
-  node-length : (k : ℕ) → length (encodeNode m k) ≡ 24
-  unfolding encodeNode
-  node-length k = fields-length 8 _ _ _
-
-  panel-length : (i : ℕ) → length (encodePanel m i) ≡ 6
-  unfolding encodePanel
-  panel-length i = fields-length 2 _ _ _
-
-  node-there : (k : ℕ) → k < nnode m → Three 8 file (9 + k * 24) (toBits binary64 (at (m .xs) k)) (toBits binary64 (at (m .ys) k)) (toBits binary64 (at (m .zs) k))
-  unfolding encodeNode
-  node-there k l =
-      let r = rows-at (encodeNode m) 24 node-length 0 (nnode m) k panelRows l in
-      fields-at 8 file (9 + k * 24) _ _ _ (r .0) (pattern _ (held .x k)) (pattern _ (held .y k)) (pattern _ (held .z k)) (behind-header (k * 24) ∙ r .1 ∙ ap (λ (j : ℕ). encodeNode m j ++ r .0) (zero-add k))
-
-  panel-there : (i : ℕ) → i < ntri m → Three 2 file (9 + (nnode m * 24 + i * 6)) (getD (m .t0) i 0) (getD (m .t1) i 0) (getD (m .t2) i 0)
-  unfolding encodePanel
-  panel-there i l =
-      let r = rows-at (encodePanel m) 6 panel-length 0 (ntri m) i [] l in
-      let b = ok .none-missing i l in
-      let e : drop (nnode m * 24 + i * 6) (nodeRows ++ panelRows) ≡ drop (i * 6) panelRows =
-      ap (λ (x : ℕ). drop (x + i * 6) (nodeRows ++ panelRows)) (sym (rows-length (encodeNode m) 24 node-length 0 (nnode m))) ∙ drop-append-add nodeRows panelRows (i * 6) in
-      fields-at 2 file (9 + (nnode m * 24 + i * 6)) _ _ _ (r .0) (omega (arith, b .below0, few-nodes)) (omega (arith, b .below1, few-nodes)) (omega (arith, b .below2, few-nodes))
-      (behind-header (nnode m * 24 + i * 6) ∙ e ∙ ap (drop (i * 6)) (sym (append-nil panelRows)) ∙ r .1 ∙ ap (λ (j : ℕ). encodePanel m j ++ r .0) (zero-add i))
-
-  -- a column of coordinates, and one of indices
-  coordinates : (axis : ℕ) (xs : List Float) → length xs ≡ nnode m → ((k : ℕ) → T (fits binary64 (at xs k)))
-      → ((k : ℕ) → k < nnode m → littleEndian 8 file (coordinatePlace axis k) ≡ toBits binary64 (at xs k)) → tabulate (nodeCount file) (coordinate file axis) ≡ xs
-  unfolding coordinate
-  coordinates axis xs e f there =
-      ap (λ (c : ℕ). tabulate c (coordinate file axis)) (counts .second)
-      ∙ ext-getD nan (tabulate (nnode m) (coordinate file axis)) xs (tabulate-length (nnode m) (coordinate file axis) ∙ sym e)
-      (λ k l.
-      let h : k < nnode m = rw (tabulate-length (nnode m) (coordinate file axis)) at l in
-      tabulate-get nan (nnode m) (coordinate file axis) k h ∙ ap (λ (x : ℕ). bits x) (there k h) ∙ ofBits-toBits binary64 (at xs k) (f k))
-
-  indices : (corner : ℕ) (t : List ℕ) → length t ≡ ntri m → ((i : ℕ) → i < ntri m → littleEndian 2 file (indexPlace (nnode m) corner i) ≡ getD t i 0)
-      → tabulate (panelCount file) (index file (nodeCount file) corner) ≡ t
-  unfolding index
-  indices corner t e there =
-      (λ j. tabulate (counts .third j) (index file (counts .second j) corner))
-      ∙ ext-getD 0 (tabulate (ntri m) (index file (nnode m) corner)) t (tabulate-length (ntri m) (index file (nnode m) corner) ∙ sym e)
-      (λ i l.
-      let h : i < ntri m = rw (tabulate-length (ntri m) (index file (nnode m) corner)) at l in
-      tabulate-get 0 (ntri m) (index file (nnode m) corner) i h ∙ there i h)
-
-  place : (w : ℕ) (a b x : ℕ) → a ≡ b → littleEndian w file b ≡ x → littleEndian w file a ≡ x
-  place w a b x e h = ap (littleEndian w file) e ∙ h
-
-  pub decode-encode : decode (encode m) ≡ m
-  decode-encode =
-      let x = coordinates 0 (m .xs) refl (held .x) (λ k l. place 8 _ _ _ (omega arith) (node-there k l .first)) in
-      let y = coordinates 1 (m .ys) (ok .nodes-alike .ys-long) (held .y) (λ k l. place 8 _ _ _ (omega arith) (node-there k l .second)) in
-      let z = coordinates 2 (m .zs) (ok .nodes-alike .zs-long) (held .z) (λ k l. place 8 _ _ _ (omega arith) (node-there k l .third)) in
-      let a = indices 0 (m .t0) refl (λ i l. place 2 _ _ _ (omega arith) (panel-there i l .first)) in
-      let b = indices 1 (m .t1) (ok .panels-alike .t1-long) (λ i l. place 2 _ _ _ (omega arith) (panel-there i l .second)) in
-      let c = indices 2 (m .t2) (ok .panels-alike .t2-long) (λ i l. place 2 _ _ _ (omega arith) (panel-there i l .third)) in
-      (λ j. meshOf (x j) (y j) (z j) (a j) (b j) (c j))
-
--- two meshes share a file only if they are one
-pub one-file : (m m' : Mesh) (n p : ℕ) → Accepted n p m → Accepted n p m' → n < 2 ^ 16 → p < 2 ^ 16 → Held m → Held m' → encode m ≡ encode m' → m ≡ m'
-one-file m m' n p a a' sn sp h h' e = sym (decode-encode m n p a sn sp h) ∙ ap (λ (b : List ℕ). decode b) e ∙ decode-encode m' n p a' sn sp h'
-
--- ---- read, then written
-module _ (b : List ℕ) (bytes : Bytes b) (n p : ℕ) (ok : fileRefusal n p 0 b ≡ 0) (numbers : NoNan b) where
-  known : Clean n p 0 b
-  known = clean n p 0 b ok
-
-  long : length b ≡ 9 + (nodeCount b * 24 + panelCount b * 6)
-  unfolding lengthDue
-  long = let z : 0 * nodeCount b ≡ 0 = zero-mul (nodeCount b) in omega (arith, length-due 0 b (known .long))
-
-  -- the first nine bytes
-  header-again : encodeHeader (nodeCount b) (panelCount b) ≡ take 9 b
-  unfolding encodeHeader
-  header-again =
-      let m = marked b (known .marks) in
-      let f = fields-back 2 b 3 bytes (omega (arith, long)) in
-      let d0 = drop-cons b 0 0 (omega (arith, long)) in
-      let d1 = drop-cons b 1 0 (omega (arith, long)) in
-      let d2 = drop-cons b 2 0 (omega (arith, long)) in
-      (λ i. sym (m .P) i ∷ sym (m .N) i ∷ sym (m .L) i ∷ (ap (λ (x : ℕ). threeFields 2 x (nodeCount b) (panelCount b)) (sym (m .versioned)) ∙ f) i)
-      ∙ ap (λ (x : List ℕ). getD b 0 0 ∷ getD b 1 0 ∷ take 7 x) (sym d2)
-      ∙ ap (λ (x : List ℕ). getD b 0 0 ∷ take 8 x) (sym d1)
-      ∙ ap (take 9) (sym d0)
-
-  -- a coordinate's bits
-  bits-again : (axis k : ℕ) → axis ≤ 2 → k < nodeCount b → toBits binary64 (getD (tabulate (nodeCount b) (coordinate b axis)) k nan) ≡ littleEndian 8 b (coordinatePlace axis k)
-  unfolding coordinate
-  bits-again axis k l h =
-      let x = littleEndian 8 b (coordinatePlace axis k) in
-      ap (toBits binary64) (tabulate-get nan (nodeCount b) (coordinate b axis) k h)
-      ∙ toBits-ofBits binary64 x (bound 8 b (coordinatePlace axis k) bytes) (subst (λ (t : Bool). T (not t)) (sym (sym (nanBits-is binary64 x) ∙ numbers axis k l h)) tt)
-
-  index-again : (corner i : ℕ) → i < panelCount b → getD (tabulate (panelCount b) (index b (nodeCount b) corner)) i 0 ≡ littleEndian 2 b (indexPlace (nodeCount b) corner i)
-  unfolding index
-  index-again corner i h = tabulate-get 0 (panelCount b) (index b (nodeCount b) corner) i h
-
-  node-again : (k : ℕ) → k < nodeCount b → encodeNode (decode b) k ≡ take 24 (drop (9 + k * 24) b)
-  unfolding encodeNode
-  node-again k l =
-      let o = 9 + k * 24 in
-      let p0 : coordinatePlace 0 k ≡ o = omega arith in
-      let p1 : coordinatePlace 1 k ≡ o + 8 = omega arith in
-      let p2 : coordinatePlace 2 k ≡ o + (8 + 8) = omega arith in
-      let e0 = bits-again 0 k (omega arith) l ∙ ap (littleEndian 8 b) p0 in
-      let e1 = bits-again 1 k (omega arith) l ∙ ap (littleEndian 8 b) p1 in
-      let e2 = bits-again 2 k (omega arith) l ∙ ap (littleEndian 8 b) p2 in
-      (λ i. threeFields 8 (e0 i) (e1 i) (e2 i)) ∙ fields-back 8 b o bytes (omega (arith, long))
-
-  panel-again : (i : ℕ) → i < panelCount b → encodePanel (decode b) i ≡ take 6 (drop (9 + nodeCount b * 24 + i * 6) b)
-  unfolding encodePanel
-  panel-again i l =
-      let o = 9 + nodeCount b * 24 + i * 6 in
-      let p0 : indexPlace (nodeCount b) 0 i ≡ o = omega arith in
-      let p1 : indexPlace (nodeCount b) 1 i ≡ o + 2 = omega arith in
-      let p2 : indexPlace (nodeCount b) 2 i ≡ o + (2 + 2) = omega arith in
-      let e0 = index-again 0 i l ∙ ap (littleEndian 2 b) p0 in
-      let e1 = index-again 1 i l ∙ ap (littleEndian 2 b) p1 in
-      let e2 = index-again 2 i l ∙ ap (littleEndian 2 b) p2 in
-      (λ j. threeFields 2 (e0 j) (e1 j) (e2 j)) ∙ fields-back 2 b o bytes (omega (arith, long))
-
-  pub encode-decode : encode (decode b) ≡ b
-  unfolding encode
-  encode-decode =
-      let c = nodeCount b in
-      let q = panelCount b in
-      let z0 : 9 + 0 * 24 ≡ 9 = omega arith in
-      let z1 : 9 + c * 24 + 0 * 6 ≡ 9 + c * 24 = omega arith in
-      let h = (λ i. encodeHeader (nodes b i) (panels b i)) ∙ header-again in
-      let r = ap (rowsFrom (encodeNode (decode b)) 0) (nodes b) ∙ rows-back (encodeNode (decode b)) 24 9 b 0 c (λ k l. node-again k (omega arith)) ∙ ap (λ (x : ℕ). take (c * 24) (drop x b)) z0 in
-      let s = ap (rowsFrom (encodePanel (decode b)) 0) (panels b) ∙ rows-back (encodePanel (decode b)) 6 (9 + c * 24) b 0 q (λ i l. panel-again i (omega arith)) ∙ ap (λ (x : ℕ). take (q * 6) (drop x b)) z1 in
-      let tail = ap (λ (x : List ℕ). take (c * 24) (drop 9 b) ++ take (q * 6) x) (sym (drop-drop (c * 24) 9 b)) ∙ sym (take-add (c * 24) (q * 6) (drop 9 b)) in
-      (λ i. h i ++ (r i ++ s i)) ∙ ap (λ (x : List ℕ). take 9 b ++ x) tail ∙ sym (take-add 9 (c * 24 + q * 6) b) ∙ take-all (9 + (c * 24 + q * 6)) b (le-of-eq long)
+use Rattle.panel_file.proofs.Accepted.{mesh-columns-off}
+use Rattle.panel_file.proofs.Refusals.{c14, c11, c15, c3, c4, file-numbered, accepted, cleared, read-accepted}
 
 pub read-numbered : (n p : ℕ) (b : List ℕ) (l : Lengths) → ReadNumbered n p b l (readRefusal n p b l)
 unfolding readRefusal fileChecks
@@ -202,12 +17,8 @@ read-numbered n p b l =
     let c6 = check outputLength (meshColumnsDiffer b l) in
     let o = mesh-columns-off b l in
     let w6 = applies-first cs 6 (c6 .applies) [] tt tt tt in
-    let w0 = none-applies (c14 n p 0 b ∷ c11 n p 0 b ∷ c15 n p 0 b ∷ c3 n p 0 b ∷ c4 n p 0 b ∷ c6 ∷ []) tt in
     record {
       file = file-numbered n p 0 b (c6 ∷ []) tt tt tt tt tt;
       is-6 = (λ e. let v = w6 .0 e in (accepted n p 0 b (v .0), on _ _ o .0 (v .1)), λ h. w6 .1 (cleared n p 0 b (h .0), on _ _ o .1 (h .1)));
-      is-0 = (
-        (λ e. let v = w0 .0 e in (accepted n p 0 b (v .0, (v .1 .0, (v .1 .1 .0, (v .1 .1 .1 .0, (v .1 .1 .1 .1 .0, tt))))), o .0 (v .1 .1 .1 .1 .1 .0))),
-        λ h. let v = cleared n p 0 b (h .0) in w0 .1 (v .0, (v .1 .0, (v .1 .1 .0, (v .1 .1 .1 .0, (v .1 .1 .1 .1 .0, (o .1 (h .1), tt)))))),
-      );
+      is-0 = read-accepted n p b l;
     }

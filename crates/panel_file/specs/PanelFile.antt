@@ -5,8 +5,9 @@ use mathlib.Core.List.{List, [], _∷_, _++_}
 use Prim.Native.Nat.{ℕ, _+_, _*_, _<_, _≤_, _^_}
 use lib.Dec.{T, ltb, eqb}
 use lib.ListN.{length, getD}
-use lib.Ieee.{Float, binary64, fits, nanBits, toBits}
+use lib.Ieee.{Float, binary64, fits, nanBits}
 use Rattle.binary64.specs.Binary64.{bits, at}
+use Rattle.ieee754.specs.Ieee754.{canonicalBits}
 use Rattle.lists.specs.Columns.{columnsDiffer}
 use Rattle.lists.specs.Filling.{tabulate}
 use Rattle.refusal.specs.Numbers.{fileMark, fileLength, tooLarge, missingNode, zeroArea, outputLength}
@@ -71,13 +72,20 @@ unfoldable pub encodeHeader : ℕ → ℕ → List ℕ
 encodeHeader n p = 80 ∷ 78 ∷ 76 ∷ threeFields 2 version n p
 
 unfoldable pub encodeNode : Mesh → ℕ → List ℕ
-encodeNode m k = threeFields 8 (toBits binary64 (at (m .xs) k)) (toBits binary64 (at (m .ys) k)) (toBits binary64 (at (m .zs) k))
+encodeNode m k = threeFields 8 (canonicalBits (at (m .xs) k)) (canonicalBits (at (m .ys) k)) (canonicalBits (at (m .zs) k))
 
 unfoldable pub encodePanel : Mesh → ℕ → List ℕ
-encodePanel m i = threeFields 2 (getD (m .t0) i 0) (getD (m .t1) i 0) (getD (m .t2) i 0)
+encodePanel m i = threeFields (countWidth version) (getD (m .t0) i 0) (getD (m .t1) i 0) (getD (m .t2) i 0)
+
+-- every node's row, every panel's row
+abbrev pub nodeRows : Mesh → List ℕ
+nodeRows m = rowsFrom (encodeNode m) 0 (nnode m)
+
+abbrev pub panelRows : Mesh → List ℕ
+panelRows m = rowsFrom (encodePanel m) 0 (ntri m)
 
 unfoldable pub encode : Mesh → List ℕ
-encode m = encodeHeader (nnode m) (ntri m) ++ (rowsFrom (encodeNode m) 0 (nnode m) ++ rowsFrom (encodePanel m) 0 (ntri m))
+encode m = encodeHeader (nnode m) (ntri m) ++ (nodeRows m ++ panelRows m)
 
 -- every coordinate is a number of the format, as those of lent columns are
 pub record Held (m : Mesh) : Type 0 where

@@ -160,7 +160,7 @@ fn marks_differ(bytes: &[u8]) -> bool
 }
 
 // The bytes of a file of n nodes and p panels with `extra` f64 a node behind them.
-fn length_due(extra: usize, n: usize, p: usize) -> usize
+pub fn length_due(extra: usize, n: usize, p: usize) -> usize
     requires { ⌜ (extra < 2 ^ 16) × (n < 2 ^ 16) × (p < 2 ^ 16) ⌝ }
     ensures { λ r. ⌜ r ≡ Spec.lengthDue extra n p ⌝ }
 {

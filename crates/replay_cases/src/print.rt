@@ -40,7 +40,21 @@ fn named_lines(cases: &[u64; 64], differ: &[u64; 64]) -> u64
     ensures { λ r. ⌜ r ≡ Spec.total (passed differ) 64 ⌝ }
 {
     lines(
-        b"                  fma               sqrt              ln                asinh             atan2             dot3              cross3            norm3             closest_point     area              quality           record            potential         gradient          contact           bisect            coupling          block             entry             mesh_test         quadrature        densities         basis_densities   panel_density     matrix            energy2           energy1           flux              interaction       move              row_matrix        row_map           read_file         density_program   display                             point_distance    segment_distance  coupling_regular  block_energy      identical         map_point         normal            normalize3        add_scaled3       sub3              add3              scale3            min               max               clamp             abs               square_add        box_distance      panel_distance    longest_edge      is_far                                                                                                                        ",
+        b"                  fma               sqrt              ln                \
+        asinh             atan2             dot3              cross3            \
+        norm3             closest_point     area              quality           \
+        record            potential         gradient          contact           \
+        bisect            coupling          block             entry             \
+        mesh_test         quadrature        densities         basis_densities   \
+        panel_density     matrix            energy2           energy1           \
+        flux              interaction       move              row_matrix        \
+        row_map           read_file         density_program   display                             \
+        point_distance    segment_distance  coupling_regular  block_energy      \
+        identical         map_point         normal            normalize3        \
+        add_scaled3       sub3              add3              scale3            \
+        min               max               clamp             abs               \
+        square_add        box_distance      panel_distance    longest_edge      \
+        is_far            write_file                                                                                                  ",
         cases,
         differ,
     )

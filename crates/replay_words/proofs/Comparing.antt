@@ -8,7 +8,7 @@ use lib.Dec.{eqb}
 use lib.ListN.{getD}
 use lib.Ieee.{Float}
 use Rattle.binary64.specs.Binary64.{at}
-use Rattle.density_text.specs.Text.{canonicalBits}
+use Rattle.ieee754.specs.Ieee754.{canonicalBits}
 use Rattle.replay_words.specs.Buffers.{pattern, dueWord, heldTo, placesTo, sameTo}
 
 pub held-more : (r : ℕ) (v : List Float) (w : List ℕ) (k n : ℕ) → heldTo r v w k (n + 1) ≡ (heldTo r v w k n && eqb (canonicalBits (at v n)) (dueWord pattern r w (k + n)))

@@ -6,7 +6,7 @@ use lib.Dec.{eqb}
 use lib.ListN.{getD, length, replicate}
 use lib.Ieee.{Float}
 use Rattle.binary64.specs.Binary64.{at, bits}
-use Rattle.density_text.specs.Text.{canonicalBits}
+use Rattle.ieee754.specs.Ieee754.{canonicalBits}
 use Rattle.replay_words.specs.Words.{part}
 
 -- the bits of 77

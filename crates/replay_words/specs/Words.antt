@@ -6,7 +6,7 @@ use lib.Dec.{eqb, ltb}
 use lib.ListN.{getD, take, drop}
 use lib.Ieee.{Float}
 use Rattle.binary64.specs.Binary64.{at}
-use Rattle.density_text.specs.Text.{canonicalBits}
+use Rattle.ieee754.specs.Ieee754.{canonicalBits}
 
 -- three numbers and nine from the k-th on
 unfoldable pub vectorAt : List Float → ℕ → List Float

@@ -23,7 +23,7 @@ pub fn held(refusal: u32, v: &[f64], w: &[u64; 2048], k: usize) -> bool
     let mut ok = true;
     let mut i = 0;
     while i < v.len() {
-        let bits = density_text::canonical_bits(v[i]);
+        let bits = ieee754::canonical_bits(v[i]);
         let due = due_word(0x4053_4000_0000_0000, refusal, w, k + i);
         ok = (ok) & (bits == due);
         i += 1;
@@ -54,8 +54,8 @@ fn same_numbers(v: &[f64], u: &[f64]) -> bool
     let mut ok = true;
     let mut i = 0;
     while i < v.len() {
-        let bits = density_text::canonical_bits(v[i]);
-        let due = density_text::canonical_bits(u[i]);
+        let bits = ieee754::canonical_bits(v[i]);
+        let due = ieee754::canonical_bits(u[i]);
         ok = (ok) & (bits == due);
         i += 1;
     }

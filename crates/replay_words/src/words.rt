@@ -49,7 +49,7 @@ pub fn same_number(x: f64, w: &[u64; 2048], k: usize) -> bool
     requires { ⌜ k < 2048 ⌝ }
     ensures { λ r. ⌜ r ≡ Spec.sameNumber x (passed w) k ⌝ }
 {
-    same_word(density_text::canonical_bits(x), w, k)
+    same_word(ieee754::canonical_bits(x), w, k)
 }
 
 pub fn same_flag(t: bool, w: &[u64; 2048], k: usize) -> bool

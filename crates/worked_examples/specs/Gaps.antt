@@ -7,7 +7,7 @@ use lib.ListN.{getD}
 use lib.Ieee.{Float}
 use Rattle.binary64.specs.Binary64.{at}
 use Rattle.elementary.specs.Elementary.{ln, asinh, atan2}
-use Rattle.density_text.specs.Text.{canonicalBits}
+use Rattle.ieee754.specs.Ieee754.{canonicalBits}
 
 -- the place of a bit pattern in the order of the numbers, both zeros at 2^63
 unfoldable pub rank : ℕ → ℕ

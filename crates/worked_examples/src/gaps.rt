@@ -1,7 +1,7 @@
 // How far ln, asinh and atan2 are from a table of values, in units in the last place.
 ghost use mathlib.Core.Path.{_≡_};
 ghost use Rattle.worked_examples.specs.Gaps as Spec;
-use density_text::canonical_bits;
+use ieee754::canonical_bits;
 
 // A bit pattern's place in the order of the numbers.
 fn rank(b: u64) -> u64

@@ -1,7 +1,7 @@
 // The lines of the table. What is written no contract can say; each answers the number that it wrote.
 ghost use mathlib.Core.Path.{_≡_};
-ghost use Rattle.density_text.specs.Text.{canonicalBits};
-use density_text::canonical_bits;
+ghost use Rattle.ieee754.specs.Ieee754.{canonicalBits};
+use ieee754::canonical_bits;
 
 pub fn bits_line(label: &[u8], x: f64) -> u64
     ensures { λ r. ⌜ r ≡ canonicalBits x ⌝ }

@@ -1,7 +1,7 @@
 //! The kinds of cases.
 
 /// The names of the kinds: that of kind k stands at k - 1.
-pub const NAMES: [&str; 57] = [
+pub const NAMES: [&str; 58] = [
     "fma",
     "sqrt",
     "ln",
@@ -58,7 +58,8 @@ pub const NAMES: [&str; 57] = [
     "box_distance",
     "panel_distance",
     "longest_edge",
-    "is_far", // 57
+    "is_far",
+    "write_file", // 58
 ];
 
 /// The name of a kind.

@@ -123,6 +123,11 @@ impl Out {
         let nodes = self.numbers(&m.x).numbers(&m.y).numbers(&m.z);
         nodes.sizes(&m.a).sizes(&m.b).sizes(&m.c)
     }
+    /// Six columns as results, with no lengths before them.
+    pub fn columns(self, m: &Mesh) -> Self {
+        let nodes = self.results(&m.x).results(&m.y).results(&m.z);
+        nodes.lengths(&m.a).lengths(&m.b).lengths(&m.c)
+    }
     /// A result.
     pub fn result(self, x: f64) -> Self {
         self.word(canonical(x))
@@ -187,11 +192,14 @@ mod tests {
 
     #[test]
     fn every_nan_of_a_result_is_one_number() {
+        let (nan, one) = (0x7ff8_0000_0000_0000, 1f64.to_bits());
         let words = Out::default()
             .result(-f64::NAN)
             .results(&[f64::from_bits(0x7ff0_0000_0000_0001), 1.0])
             .0;
-        assert_eq!(words, [0x7ff8_0000_0000_0000, 0x7ff8_0000_0000_0000, 1f64.to_bits()]);
+        assert_eq!(words, [nan, nan, one]);
+        let words = Out::default().columns(&Mesh::of_panel([[1.0, -f64::NAN, 1.0]; 3])).0;
+        assert_eq!(words, [one, one, one, nan, nan, nan, one, one, one, 0, 1, 2]);
     }
 
     trait Bits {

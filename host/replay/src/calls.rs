@@ -1,5 +1,6 @@
 //! One entry for every kind of case that the crate answers.
-use crate::lent::{Lent, Number, counted, written};
+use crate::files;
+use crate::lent::{Lent, counted, written};
 use cases::{In, Mesh, Out, Triangle};
 use screens::mesh::elements::tri::{mapping, tri3};
 use screens::{QuadratureKind, Refusal, TriangleMeshView, UniformTriangle, math};
@@ -8,7 +9,7 @@ use screens::{QuadratureKind, Refusal, TriangleMeshView, UniformTriangle, math};
 pub type Call = fn(&mut In<'_>, Out) -> Out;
 
 /// Lent buffers of the lengths that stand next in the input.
-fn lent<T: Number, const N: usize>(i: &mut In<'_>) -> [Lent<T>; N] {
+fn lent<const N: usize>(i: &mut In<'_>) -> [Lent<f64>; N] {
     i.lengths().map(Lent::new)
 }
 
@@ -18,7 +19,7 @@ fn rule(i: &mut In<'_>) -> Result<QuadratureKind, Refusal> {
     QuadratureKind::try_from(number)
 }
 
-fn view(m: &Mesh) -> Result<TriangleMeshView<'_>, Refusal> {
+pub(crate) fn view(m: &Mesh) -> Result<TriangleMeshView<'_>, Refusal> {
     TriangleMeshView::new((&m.x, &m.y, &m.z), (&m.a, &m.b, &m.c))
 }
 
@@ -260,13 +261,8 @@ pub const CALLS: &[(&str, Call)] = &[
         row(o, &map, screens::triangle_mesh_map_row(&map, sources, node))
     }),
     // files and display
-    ("read_file", |i, o| {
-        let file = i.bytes();
-        let ([mut x, mut y, mut z], [mut a, mut b, mut c]) = (lent(i), lent(i));
-        let nodes = (x.lend(), y.lend(), z.lend());
-        let answer = screens::read_panel_file(&file, nodes, (a.lend(), b.lend(), c.lend()));
-        written(o, answer, &[&x, &y, &z, &a, &b, &c])
-    }),
+    ("read_file", files::read_file),
+    ("write_file", files::write_file),
     ("display", |i, o| {
         counted(o, screens::display(i.number()).map(|value| [value as u64]), 1, &[])
     }),

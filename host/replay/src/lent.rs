@@ -1,5 +1,5 @@
 //! What is lent to a call: a buffer filled with a pattern, with pattern words before and behind it that no call may write.
-use cases::{Out, canonical};
+use cases::Out;
 use screens::Refusal;
 
 const GUARD: usize = 4;
@@ -7,14 +7,12 @@ const GUARD: usize = 4;
 const WROTE_OUTSIDE: u64 = 0x0ff5_1de0_0ff5_1de0;
 const WROTE_ON_REFUSAL: u64 = 0xdead_beef_dead_beef;
 
-/// A number of 64 bits.
+/// A number of 64 bits, or a byte.
 pub(crate) trait Number: Copy {
     fn of_bits(bits: u64) -> Self;
     fn bits(self) -> u64;
-    /// The word of a result.
-    fn result(self) -> u64 {
-        self.bits()
-    }
+    /// Appends what a call left as results.
+    fn results(o: Out, left: &[Self]) -> Out;
 }
 
 impl Number for f64 {
@@ -24,8 +22,8 @@ impl Number for f64 {
     fn bits(self) -> u64 {
         self.to_bits()
     }
-    fn result(self) -> u64 {
-        canonical(self)
+    fn results(o: Out, left: &[Self]) -> Out {
+        o.results(left)
     }
 }
 
@@ -35,6 +33,22 @@ impl Number for usize {
     }
     fn bits(self) -> u64 {
         self as u64
+    }
+    fn results(o: Out, left: &[Self]) -> Out {
+        o.lengths(left)
+    }
+}
+
+impl Number for u8 {
+    /// Both halves' lowest bytes, so that guards and contents have patterns of their own here too.
+    fn of_bits(bits: u64) -> Self {
+        (bits >> 32 ^ bits) as u8
+    }
+    fn bits(self) -> u64 {
+        self.into()
+    }
+    fn results(o: Out, left: &[Self]) -> Out {
+        o.bytes(left)
     }
 }
 
@@ -70,6 +84,11 @@ impl<T: Number> Lent<T> {
         &mut self.words[GUARD..end]
     }
 
+    /// What a call left.
+    pub(crate) fn left(&self) -> &[T] {
+        &self.words[GUARD..self.words.len() - GUARD]
+    }
+
     fn same(&self, mut range: std::ops::Range<usize>) -> bool {
         range.all(|i| self.words[i].bits() == self.before[i])
     }
@@ -77,15 +96,14 @@ impl<T: Number> Lent<T> {
 
 /// A lent buffer of any type.
 pub(crate) trait Buffer {
-    fn contents(&self) -> Vec<u64>;
+    fn results(&self, o: Out) -> Out;
     fn guards_hold(&self) -> bool;
     fn untouched(&self) -> bool;
 }
 
 impl<T: Number> Buffer for Lent<T> {
-    fn contents(&self) -> Vec<u64> {
-        let words = &self.words[GUARD..self.words.len() - GUARD];
-        words.iter().map(|word| word.result()).collect()
+    fn results(&self, o: Out) -> Out {
+        T::results(o, self.left())
     }
     fn guards_hold(&self) -> bool {
         self.same(0..GUARD) && self.same(self.words.len() - GUARD..self.words.len())
@@ -112,10 +130,7 @@ pub(crate) fn counted(
         Ok(words) => {
             let mut o = o.word(0);
             o.0.extend(words);
-            for buffer in buffers {
-                o.0.extend(buffer.contents());
-            }
-            o
+            buffers.iter().fold(o, |o, buffer| buffer.results(o))
         }
         Err(refusal) => {
             let o = o.refusal(refusal.number(), zeros);
@@ -141,6 +156,12 @@ mod tests {
             written(Out::default(), Ok(()), &[&out]).0,
             [0, 1f64.to_bits(), 0x7ff8_0000_0000_0000]
         );
+        let mut file = Lent::<u8>::new(9);
+        file.lend().copy_from_slice(b"PNL\x01\0\0\0\0\x7f");
+        assert_eq!(
+            written(Out::default(), Ok(()), &[&file]).0,
+            [0, 9, 0x0000_0000_014c_4e50, 0x7f]
+        );
         let untouched = Lent::<usize>::new(3);
         assert_eq!(written(Out::default(), Err(Refusal::Output), &[&untouched]).0, [6]);
         assert_eq!(
@@ -151,19 +172,25 @@ mod tests {
 
     #[test]
     fn writing_on_a_refusal_is_seen() {
-        let mut out = Lent::<f64>::new(2);
-        out.lend()[1] = 0.0;
-        let answer = written(Out::default(), Err(Refusal::Output), &[&out]).0;
-        assert_eq!(answer, [6, WROTE_ON_REFUSAL]);
+        let (mut out, mut file) = (Lent::new(2), Lent::new(2));
+        (out.lend()[1], file.lend()[1]) = (0.0, b'P');
+        let touched: [&dyn Buffer; 2] = [&out, &file];
+        for buffer in touched {
+            let answer = written(Out::default(), Err(Refusal::Output), &[buffer]).0;
+            assert_eq!(answer, [6, WROTE_ON_REFUSAL]);
+        }
     }
 
     #[test]
     fn writing_outside_is_seen() {
         for place in [GUARD - 1, GUARD + 2] {
-            let mut out = Lent::<usize>::new(2);
-            out.words[place] = 0;
-            let answer = written(Out::default(), Ok(()), &[&out]).0;
-            assert_eq!(answer.last(), Some(&WROTE_OUTSIDE));
+            let (mut out, mut file) = (Lent::new(2), Lent::new(2));
+            (out.words[place], file.words[place]) = (0usize, 0u8);
+            let touched: [&dyn Buffer; 2] = [&out, &file];
+            for buffer in touched {
+                let answer = written(Out::default(), Ok(()), &[buffer]).0;
+                assert_eq!(answer.last(), Some(&WROTE_OUTSIDE));
+            }
         }
     }
 }

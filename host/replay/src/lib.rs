@@ -1,6 +1,8 @@
 //! Answers cases (oracle/FORMAT.md) through the crate `screens`. Buffers are lent with a pattern in them and guard words around
-//! them; whatever a call writes that it must not write becomes a word of its answer, which then differs from the one due.
+//! them; whatever a call writes that it must not write becomes a word of its answer, which then differs from the one due. So does
+//! a panel file that does not go there and back.
 mod calls;
+mod files;
 mod lent;
 
 pub use calls::{CALLS, Call};

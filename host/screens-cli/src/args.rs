@@ -52,6 +52,11 @@ impl Args {
         self.place(what).map(PathBuf::from)
     }
 
+    /// The next place, a file, if there is one.
+    pub(crate) fn next_path(&mut self) -> Option<PathBuf> {
+        self.places.next().map(PathBuf::from)
+    }
+
     /// That no place is left.
     pub(crate) fn end(&mut self) -> Result<(), Failure> {
         match self.places.next() {

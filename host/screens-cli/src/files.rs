@@ -11,7 +11,7 @@ pub(crate) fn open(path: &Path) -> Result<File, Failure> {
 }
 
 /// At most so many bytes of what is left in a file.
-pub(crate) fn read_at_most(file: &mut File, path: &Path, most: u64) -> Result<Vec<u8>, Failure> {
+pub(crate) fn read_at_most(file: &mut impl Read, path: &Path, most: u64) -> Result<Vec<u8>, Failure> {
     let mut bytes = vec![];
     file.take(most)
         .read_to_end(&mut bytes)

@@ -8,6 +8,7 @@ pub(crate) const GENERAL: &str = "\
 usage: screens COMMAND ...
 
   check FILE                                     tests a panel file and says what it holds
+  write NODES PANELS | FILE -o OUT.pnl           writes a panel file
   matrix FILE --rule N -o OUT.npy                computes the inductance matrix
   row MATRIX.npy NODE                            shows a row in whole nanohenries
   energy MATRIX.npy --ring FILE | --values FILE  the energy of nodal values
@@ -24,8 +25,8 @@ For example, from the repository's folder:
   screens energy plate.npy --ring examples/plate.pnl
   screens plot examples/plate.pnl -o plate.svg
 
-FILE is a panel file, MATRIX.npy a NumPy file (float64, n rows of n). Units are metres, amperes and henries; nodes and panels
-are counted from 0. `screens help COMMAND` says more about one.
+FILE is a panel file, NODES and PANELS are rows of three numbers (NumPy or text), MATRIX.npy is a NumPy file (float64, n rows
+of n). Units are metres, amperes and henries; nodes and panels are counted from 0. `screens help COMMAND` says more about one.
 
 Exit status: 0 done; 1 refused, with the number and the word of the README's table; 2 bad usage, or a file that cannot be read
 or written. An output file is there whole or not at all.

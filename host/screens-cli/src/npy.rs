@@ -1,15 +1,37 @@
-//! NumPy's file format for float64 in C order: a mark, a version, a dictionary as text, then the numbers, little-endian.
+//! NumPy's file format for float64 and int64 in C order: a mark, a version, a dictionary as text, then the numbers, little-endian.
 use crate::failure::Failure;
 use crate::files;
 use screens::Refusal;
 use screens::mesh::MAX_NODES;
-use std::fs::File;
-use std::io::{self, Write};
+use std::io::{self, Read, Write};
 use std::path::Path;
 
 const MARK: &[u8; 6] = b"\x93NUMPY";
 /// The longest dictionary that is read. One of these files has some hundred bytes.
 const LONGEST_HEADER: usize = 1 << 16;
+
+/// A number of eight bytes, with NumPy's name for it and its entry `descr`.
+pub(crate) trait Number: Copy {
+    const NAME: &'static str;
+    const DESCR: &'static str;
+    fn from_bytes(bytes: [u8; 8]) -> Self;
+}
+
+impl Number for f64 {
+    const NAME: &'static str = "float64";
+    const DESCR: &'static str = "<f8";
+    fn from_bytes(bytes: [u8; 8]) -> Self {
+        f64::from_le_bytes(bytes)
+    }
+}
+
+impl Number for i64 {
+    const NAME: &'static str = "int64";
+    const DESCR: &'static str = "<i8";
+    fn from_bytes(bytes: [u8; 8]) -> Self {
+        i64::from_le_bytes(bytes)
+    }
+}
 
 /// A square matrix, row by row.
 pub(crate) struct Matrix {
@@ -29,7 +51,7 @@ impl Matrix {
     /// Reads a matrix of at most 4,096 rows; more is refused with 11.
     pub(crate) fn read(path: &Path) -> Result<Self, Failure> {
         let mut file = files::open(path)?;
-        let shape = read_shape(&mut file, path)?;
+        let shape = read_shape::<f64>(&mut file, path)?;
         let [n, columns] = shape[..] else {
             return Err(Failure::file(path, format!("not a matrix: its shape is {shape:?}")));
         };
@@ -83,16 +105,28 @@ impl Matrix {
     }
 }
 
-/// Reads a row of numbers whose mark has been recognised by [`is_npy`].
-pub(crate) fn read_vector(path: &Path, most: usize) -> Result<Vec<f64>, Failure> {
-    let mut file = files::open(path)?;
-    let shape = read_shape(&mut file, path)?;
+/// Reads a row of numbers, at most so many; more are refused with 11.
+pub(crate) fn read_vector(file: &mut impl Read, path: &Path, most: usize) -> Result<Vec<f64>, Failure> {
+    let shape = read_shape::<f64>(file, path)?;
     match shape[..] {
-        [n] if n <= most => read_numbers(&mut file, path, n),
+        [n] if n <= most => read_numbers(file, path, n),
         [_] => Err(Failure::refused(path, Refusal::TooLarge)),
         _ => Err(Failure::file(
             path,
             format!("not one row of numbers: its shape is {shape:?}"),
+        )),
+    }
+}
+
+/// Reads rows of three numbers, at most so many; more are refused with 11.
+pub(crate) fn read_rows<T: Number>(file: &mut impl Read, path: &Path, most: usize) -> Result<Vec<[T; 3]>, Failure> {
+    let shape = read_shape::<T>(file, path)?;
+    match shape[..] {
+        [n, 3] if n <= most => Ok(read_numbers(file, path, 3 * n)?.as_chunks().0.to_vec()),
+        [_, 3] => Err(Failure::refused(path, Refusal::TooLarge)),
+        _ => Err(Failure::file(
+            path,
+            format!("not rows of three numbers: its shape is {shape:?}"),
         )),
     }
 }
@@ -114,8 +148,8 @@ fn head(shape: &str) -> Vec<u8> {
 }
 
 /// Reads up to the numbers and yields the shape.
-fn read_shape(file: &mut File, path: &Path) -> Result<Vec<usize>, Failure> {
-    let bad = |what: &str| Failure::file(path, format!("not a NumPy file of float64: {what}"));
+fn read_shape<T: Number>(file: &mut impl Read, path: &Path) -> Result<Vec<usize>, Failure> {
+    let bad = |what: &str| Failure::file(path, format!("not a NumPy file of {}: {what}", T::NAME));
     let start = files::read_at_most(file, path, 8)?;
     if start.len() < 8 || !is_npy(&start) {
         return Err(bad("it does not begin with the mark"));
@@ -137,11 +171,11 @@ fn read_shape(file: &mut File, path: &Path) -> Result<Vec<usize>, Failure> {
     if text.len() < length {
         return Err(bad("it is cut short"));
     }
-    parse(&String::from_utf8_lossy(&text)).map_err(|what| bad(&what))
+    parse::<T>(&String::from_utf8_lossy(&text)).map_err(|what| bad(&what))
 }
 
 /// Reads so many numbers, which must be all that is left.
-fn read_numbers(file: &mut File, path: &Path, count: usize) -> Result<Vec<f64>, Failure> {
+fn read_numbers<T: Number>(file: &mut impl Read, path: &Path, count: usize) -> Result<Vec<T>, Failure> {
     let due = 8 * count as u64;
     let bytes = files::read_at_most(file, path, due + 1)?;
     if bytes.len() as u64 != due {
@@ -156,11 +190,11 @@ fn read_numbers(file: &mut File, path: &Path, count: usize) -> Result<Vec<f64>, 
         ));
     }
     let (words, _) = bytes.as_chunks::<8>();
-    Ok(words.iter().map(|word| f64::from_le_bytes(*word)).collect())
+    Ok(words.iter().map(|word| T::from_bytes(*word)).collect())
 }
 
-/// The shape in a dictionary whose other entries are those of float64 in C order.
-fn parse(text: &str) -> Result<Vec<usize>, String> {
+/// The shape in a dictionary whose other entries are those of a sort of numbers in C order.
+fn parse<T: Number>(text: &str) -> Result<Vec<usize>, String> {
     let mut words = Words(text.trim());
     let (mut descr, mut order, mut shape) = (None, None, None);
     words.expect("{")?;
@@ -178,8 +212,8 @@ fn parse(text: &str) -> Result<Vec<usize>, String> {
         }
     }
     match descr {
-        Some("<f8") => {}
-        Some(other) => return Err(format!("its numbers are {other}, not <f8")),
+        Some(descr) if descr == T::DESCR => {}
+        Some(other) => return Err(format!("its numbers are {other}, not {}", T::DESCR)),
         None => return Err("its header has no descr".into()),
     }
     match order {
@@ -294,26 +328,26 @@ mod tests {
         let text = std::str::from_utf8(&head[10..]).unwrap();
         assert!(text.starts_with("{'descr': '<f8', 'fortran_order': False, 'shape': (289, 289), }   "));
         assert!(text.ends_with(" \n"));
-        assert_eq!(parse(text), Ok(vec![289, 289]));
+        assert_eq!(parse::<f64>(text), Ok(vec![289, 289]));
     }
 
     #[test]
     fn dictionaries_in_other_layouts() {
         let other = r#"{"shape":(2,3,),"fortran_order":False,"descr":"<f8"}"#;
-        assert_eq!(parse(other), Ok(vec![2, 3]));
+        assert_eq!(parse::<f64>(other), Ok(vec![2, 3]));
         assert_eq!(
-            parse("{'descr': '<f8', 'fortran_order': False, 'shape': (7,), }"),
+            parse::<f64>("{'descr': '<f8', 'fortran_order': False, 'shape': (7,), }"),
             Ok(vec![7])
         );
         assert_eq!(
-            parse("{'descr': '<f8', 'fortran_order': False, 'shape': ()}"),
+            parse::<f64>("{'descr': '<f8', 'fortran_order': False, 'shape': ()}"),
             Ok(vec![])
         );
     }
 
     #[test]
     fn what_is_wrong_is_said() {
-        let message = |text: &str| parse(text).unwrap_err();
+        let message = |text: &str| parse::<f64>(text).unwrap_err();
         assert_eq!(
             message("{'descr': '<f4', 'fortran_order': False, 'shape': (1, 1)}"),
             "its numbers are <f4, not <f8"
@@ -339,8 +373,8 @@ mod tests {
             "{'shape': (-1,)",
             "{'shape': (1 2)}",
         ] {
-            assert!(parse(text).is_err(), "{text}");
+            assert!(parse::<f64>(text).is_err(), "{text}");
         }
-        assert!(parse("{'descr': '<f8', 'fortran_order': False, 'shape': (99999999999999999999, 1)}").is_err());
+        assert!(parse::<f64>("{'descr': '<f8', 'fortran_order': False, 'shape': (99999999999999999999, 1)}").is_err());
     }
 }

@@ -1,19 +1,14 @@
-//! Panel files as the commands read them.
+//! Panel files as the commands read them, and what they say of them.
 use crate::failure::Failure;
 use crate::files;
 use screens::mesh::{MAX_NODES, MAX_PANELS};
-use screens::{QuadratureKind, Refusal, TriangleMesh, panel_file_counts};
+use screens::{QuadratureKind, Refusal, TriangleMesh, TriangleMeshView, panel_file_counts, panel_file_length};
 use std::ffi::OsStr;
 use std::path::Path;
 
-/// The length of a panel file of so many nodes and panels.
-const fn length(nodes: usize, panels: usize) -> usize {
-    9 + 24 * nodes + 6 * panels
-}
-
 /// One byte more than any file that can be accepted, with a value a node behind the panels. What is longer is refused whatever
 /// follows, and its number is that of its first bytes.
-const MOST: u64 = (length(MAX_NODES, MAX_PANELS) + 8 * MAX_NODES + 1) as u64;
+const MOST: u64 = (panel_file_length(MAX_NODES, MAX_PANELS) + 8 * MAX_NODES + 1) as u64;
 
 fn bytes(path: &Path) -> Result<Vec<u8>, Failure> {
     files::read_at_most(&mut files::open(path)?, path, MOST)
@@ -33,7 +28,7 @@ pub(crate) fn read_with_values(path: &Path) -> Result<(TriangleMesh, Vec<f64>), 
 
 fn with_values(bytes: &[u8]) -> Result<(TriangleMesh, Vec<f64>), Refusal> {
     let (nodes, panels) = panel_file_counts(bytes).unwrap_or((0, 0));
-    let (due, values) = (length(nodes, panels), 8 * nodes);
+    let (due, values) = (panel_file_length(nodes, panels), 8 * nodes);
     if bytes.len() == due + values {
         let (file, behind) = bytes.split_at(due);
         let (numbers, _) = behind.as_chunks::<8>();
@@ -45,6 +40,19 @@ fn with_values(bytes: &[u8]) -> Result<(TriangleMesh, Vec<f64>), Refusal> {
         Err(refusal @ (Refusal::Mark | Refusal::TooLarge)) => Err(refusal),
         _ => Err(Refusal::FileLength),
     }
+}
+
+/// What a mesh holds, by the name of what it was read from.
+pub(crate) fn accepted(name: &str, mesh: &TriangleMeshView<'_>) -> String {
+    let strange = (0..mesh.nnode())
+        .filter(|&i| mesh.node(i).iter().any(|x| !x.is_finite()))
+        .count();
+    format!(
+        "{name}: accepted\nnodes {}\npanels {}\npoor panels {}\nnodes that are not finite {strange}\n",
+        mesh.nnode(),
+        mesh.len(),
+        mesh.poor_panels(),
+    )
 }
 
 /// The rule of a word. A number that is none is refused with 12.

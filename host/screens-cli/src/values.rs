@@ -1,35 +1,30 @@
 //! Nodal values: a NumPy file of one row, or text.
 use crate::failure::Failure;
-use crate::{files, npy};
+use crate::npy;
+use crate::numbers::{self, Numbers};
 use screens::TriangleMeshView;
 use std::collections::BTreeMap;
 use std::path::Path;
 
-/// The longest text that is read: far more than 4,096 numbers need.
-const LONGEST_TEXT: u64 = 1 << 20;
 /// The most numbers of a NumPy file: one more than can be accepted, so that the library says why.
 const MOST: usize = screens::mesh::MAX_NODES + 1;
 
 /// Reads nodal values: a NumPy file of shape (n,), or numbers parted by spaces or lines, with remarks behind #.
 pub(crate) fn read(path: &Path) -> Result<Vec<f64>, Failure> {
-    let bytes = files::read_at_most(&mut files::open(path)?, path, LONGEST_TEXT + 1)?;
-    if npy::is_npy(&bytes) {
-        return npy::read_vector(path, MOST);
+    match numbers::read(path)? {
+        Numbers::Npy(bytes) => npy::read_vector(&mut &bytes[..], path, MOST),
+        Numbers::Text(text, true) => parse(&text).map_err(|what| Failure::file(path, what)),
+        Numbers::Text(_, false) => Err(numbers::too_long(path, "nodal values")),
     }
-    if bytes.len() as u64 > LONGEST_TEXT {
-        return Err(Failure::file(path, "too long for nodal values"));
-    }
-    let text = std::str::from_utf8(&bytes).map_err(|_| Failure::file(path, "neither a NumPy file nor text"))?;
-    parse(text).map_err(|what| Failure::file(path, what))
 }
 
 fn parse(text: &str) -> Result<Vec<f64>, String> {
     let mut values = vec![];
-    for (i, line) in text.lines().enumerate() {
-        for word in line.split('#').next().unwrap_or_default().split_whitespace() {
+    for (line, words) in numbers::lines(text) {
+        for word in words {
             let value = word
                 .parse()
-                .map_err(|_| format!("line {}: {word} is not a number", i + 1))?;
+                .map_err(|_| format!("line {line}: {word} is not a number"))?;
             values.push(value);
         }
     }

@@ -1,6 +1,6 @@
 //! Bad input gives a clear message and loses nothing: no file of the folder is changed, and none is left over.
 mod common;
-use common::{Folder, npy, square};
+use common::{Folder, npy, npy_of, npy_whole, square_file};
 use std::ffi::OsStr;
 use std::fs::{File, Permissions};
 use std::os::unix::ffi::OsStrExt;
@@ -28,6 +28,7 @@ fn refused_by_all(folder: &Folder, file: &str, status: i32, said: &str) {
         move_words,
         "density FILE --values values.txt",
         "plot FILE -o new.svg",
+        "write FILE -o square.pnl",
     ] {
         let words: Vec<&str> = line
             .split(' ')
@@ -35,6 +36,11 @@ fn refused_by_all(folder: &Folder, file: &str, status: i32, said: &str) {
             .collect();
         refused(folder, status, &words, said);
     }
+}
+
+/// The same for nodes and panels of two files.
+fn rows_refused(folder: &Folder, nodes: &str, panels: &str, status: i32, said: &str) {
+    refused(folder, status, &["write", nodes, panels, "-o", "square.pnl"], said);
 }
 
 /// The same for every command that reads a matrix by that name.
@@ -81,6 +87,9 @@ fn missing_file() {
         &["energy", "square.npy", "--values", "none.txt"],
         "none.txt: No such file",
     );
+    rows_refused(&folder, "none.txt", "panels.txt", 2, "none.txt: No such file");
+    rows_refused(&folder, "nodes.txt", "none.npy", 2, "none.npy: No such file");
+    rows_refused(&folder, ".", "panels.txt", 2, ".: Is a directory");
     refused_by_all(&folder, ".", 2, ".: Is a directory");
     matrix_refused(&folder, ".", 2, ".: Is a directory");
     refused(&folder, 2, &["check", ""], "No such file");
@@ -170,6 +179,183 @@ fn broken_matrix() {
         );
         matrix_refused(&folder, "bad.npy", 2, said);
     }
+}
+
+#[test]
+fn broken_rows_of_text() {
+    let folder = Folder::new("text");
+    for (text, said) in [
+        (&b"0 0 0\n1 0\n"[..], "bad.txt: line 2: three numbers are due, not 2"),
+        (b"0 0 0 0\n", "bad.txt: line 1: three numbers are due, not 4"),
+        (b"0\n0\n0\n", "bad.txt: line 1: three numbers are due, not 1"),
+        (b"0,0,0\n", "bad.txt: line 1: 0,0,0 is not a number"),
+        (b"# x y z\n\n0 0 0\n0 0 zero", "bad.txt: line 4: zero is not a number"),
+        (b"0 0 0x1p3", "bad.txt: line 1: 0x1p3 is not a number"),
+        (b"0 0 \xff\n", "bad.txt: neither a NumPy file nor text"),
+    ] {
+        folder.put("bad.txt", text);
+        rows_refused(&folder, "bad.txt", "panels.txt", 2, said);
+    }
+    for (text, said) in [
+        (&b"0 1 2\n1 3\n"[..], "bad.txt: line 2: three numbers are due, not 2"),
+        (b"0 1 2 3\n", "bad.txt: line 1: three numbers are due, not 4"),
+        (b"0 1 2.0\n", "bad.txt: line 1: 2.0 is not a whole number"),
+        (b"0 1 2\n-1 3 two\n", "bad.txt: line 2: two is not a whole number"),
+        (b"0 1 nan\n", "bad.txt: line 1: nan is not a whole number"),
+        (
+            b"0 1 99999999999999999999x\n",
+            "bad.txt: line 1: 99999999999999999999x is not",
+        ),
+    ] {
+        folder.put("bad.txt", text);
+        rows_refused(&folder, "nodes.txt", "bad.txt", 2, said);
+    }
+    // a panel file is neither
+    rows_refused(
+        &folder,
+        "square.pnl",
+        "panels.txt",
+        2,
+        "square.pnl: neither a NumPy file nor text",
+    );
+    refused_by_all(&folder, "nodes.txt", 1, "nodes.txt: refused, number 14 (mark)");
+}
+
+/// A NumPy file of four rows of zeros with any entries.
+fn zeros(descr: &str, fortran: &str) -> Vec<u8> {
+    npy_of(descr, fortran, "(4, 3)", [[0; 8]; 12].into_iter())
+}
+
+#[test]
+fn broken_nodes_of_numpy() {
+    let folder = Folder::new("nodes");
+    for (bytes, said) in [
+        (npy("(12,)", &[0.0; 12]), "not rows of three numbers: its shape is [12]"),
+        (npy("(6, 2)", &[0.0; 12]), "its shape is [6, 2]"),
+        (npy("(3, 4)", &[0.0; 12]), "its shape is [3, 4]"),
+        (npy("(2, 2, 3)", &[0.0; 12]), "its shape is [2, 2, 3]"),
+        (npy("()", &[0.0]), "its shape is []"),
+        (npy("(5, 3)", &[0.0; 12]), "it is cut short: its shape needs 120 bytes"),
+        (npy("(3, 3)", &[0.0; 12]), "something stands behind its numbers"),
+        (
+            zeros("<f4", "False"),
+            "not a NumPy file of float64: its numbers are <f4, not <f8",
+        ),
+        (zeros(">f8", "False"), "its numbers are >f8, not <f8"),
+        (zeros("<i8", "False"), "its numbers are <i8, not <f8"),
+        (
+            zeros("<f8", "True"),
+            "not a NumPy file of float64: it is in Fortran order",
+        ),
+        (b"\x93NUMPY".to_vec(), "it does not begin with the mark"),
+    ] {
+        folder.put("bad.npy", &bytes);
+        rows_refused(&folder, "bad.npy", "panels.txt", 2, said);
+    }
+}
+
+#[test]
+fn broken_panels_of_numpy() {
+    let folder = Folder::new("panels");
+    for (bytes, said) in [
+        (
+            npy_whole("(6,)", &[0; 6]),
+            "not rows of three numbers: its shape is [6]",
+        ),
+        (
+            npy_whole("(1, 3)", &[0, 1]),
+            "it is cut short: its shape needs 24 bytes",
+        ),
+        (
+            zeros("<f8", "False"),
+            "not a NumPy file of int64: its numbers are <f8, not <i8",
+        ),
+        (zeros("<i4", "False"), "its numbers are <i4, not <i8"),
+        (zeros(">i8", "False"), "its numbers are >i8, not <i8"),
+        (zeros("<u8", "False"), "its numbers are <u8, not <i8"),
+        (
+            zeros("<i8", "True"),
+            "not a NumPy file of int64: it is in Fortran order",
+        ),
+    ] {
+        folder.put("bad.npy", &bytes);
+        rows_refused(&folder, "nodes.txt", "bad.npy", 2, said);
+    }
+}
+
+#[test]
+fn rows_of_no_accepted_mesh() {
+    let folder = Folder::new("mesh");
+    let missing = "nodes.txt and bad: refused, number 3 (missing node)";
+    for (bytes, said) in [
+        (b"0 1 2\n1 3 4\n".to_vec(), missing),
+        (b"0 1 2\n1 3 -1\n".to_vec(), missing),
+        (b"0 1 18446744073709551615\n".to_vec(), missing),
+        (b"0 1 18446744073709551618\n".to_vec(), missing),
+        (b"-99999999999999999999 1 2\n".to_vec(), missing),
+        (npy_whole("(2, 3)", &[0, 1, 2, 1, -3, 2]), missing),
+        (npy_whole("(1, 3)", &[i64::MIN, 1, 2]), missing),
+        (npy_whole("(1, 3)", &[0, 1, i64::MAX]), missing),
+        // the second panel, before the first one's area
+        (b"0 1 1\n1 3 -1\n".to_vec(), missing),
+        (b"0 1 1\n".to_vec(), "nodes.txt and bad: refused, number 4 (zero area)"),
+    ] {
+        folder.put("bad", &bytes);
+        rows_refused(&folder, "nodes.txt", "bad", 1, said);
+    }
+    folder.put("empty.txt", b"");
+    rows_refused(&folder, "empty.txt", "panels.txt", 1, "number 3 (missing node)");
+}
+
+#[test]
+fn too_many_rows() {
+    let folder = Folder::new("many");
+    let large = |file: &str| format!("screens: {file}: refused, number 11 (too large)");
+    // each has an index that no mesh has, too: 11 comes before 3
+    folder.put("missing.txt", b"-1 1 2\n");
+    folder.put("many.txt", "0 0 0\n".repeat(4097).as_bytes());
+    folder.put("many.npy", &npy("(4097, 3)", &[0.0; 3 * 4097]));
+    folder.put("more.npy", &npy("(9000000000000000000, 3)", &[]));
+    for file in ["many.txt", "many.npy", "more.npy"] {
+        rows_refused(&folder, file, "missing.txt", 1, &large(file));
+    }
+    folder.put("many.txt", "-1 1 2\n".repeat(8193).as_bytes());
+    folder.put("many.npy", &npy_whole("(8193, 3)", &[-1; 3 * 8193]));
+    for file in ["many.txt", "many.npy"] {
+        rows_refused(&folder, "nodes.txt", file, 1, &large(file));
+    }
+    folder.put("many.txt", "-1 1 2\n".repeat(8192).as_bytes());
+    rows_refused(
+        &folder,
+        "nodes.txt",
+        "many.txt",
+        1,
+        "nodes.txt and many.txt: refused, number 3",
+    );
+}
+
+#[test]
+fn text_that_is_too_long() {
+    let folder = Folder::new("long");
+    let remark = format!("0 0 0 # {}\n", "long ".repeat(300));
+    folder.put("long.txt", remark.repeat(3000).as_bytes());
+    rows_refused(&folder, "long.txt", "panels.txt", 2, "long.txt: too long for nodes");
+    // more rows than are taken, in what is read of it
+    folder.put("long.txt", "0 0 0\n".repeat(1_000_000).as_bytes());
+    rows_refused(
+        &folder,
+        "long.txt",
+        "panels.txt",
+        1,
+        "long.txt: refused, number 11 (too large)",
+    );
+    rows_refused(
+        &folder,
+        "nodes.txt",
+        "long.txt",
+        1,
+        "long.txt: refused, number 11 (too large)",
+    );
 }
 
 #[test]
@@ -330,6 +516,8 @@ fn unwritable_folder() {
     ] {
         refused(&folder, 2, &["matrix", "square.pnl", "--rule", "3", "-o", out], said);
         refused(&folder, 2, &["plot", "square.pnl", "-o", out], said);
+        refused(&folder, 2, &["write", "square.pnl", "-o", out], said);
+        refused(&folder, 2, &["write", "nodes.txt", "panels.txt", "-o", out], said);
         let words = [
             "move",
             "square.pnl",
@@ -406,13 +594,19 @@ fn file_of_a_gigabyte() {
         &["energy", "square.npy", "--values", "zeros"],
         "zeros: too long for nodal values",
     );
-    gigabyte(&folder, "panels", &square().to_panel_file());
+    rows_refused(&folder, "zeros", "panels.txt", 2, "zeros: too long for nodes");
+    rows_refused(&folder, "nodes.txt", "zeros", 2, "zeros: too long for panels");
+    gigabyte(&folder, "panels", &square_file());
     refused_by_all(&folder, "panels", 1, "number 15 (file length)");
     refused(&folder, 1, &["density", "panels"], "number 15 (file length)");
     gigabyte(&folder, "counts", b"PNL\x01\x00\xff\xff\xff\xff");
     refused_by_all(&folder, "counts", 1, "number 11 (too large)");
     gigabyte(&folder, "matrix", &npy("(4, 4)", &[]));
     matrix_refused(&folder, "matrix", 2, "something stands behind its numbers");
+    gigabyte(&folder, "rows", &npy("(4, 3)", &[]));
+    rows_refused(&folder, "rows", "panels.txt", 2, "something stands behind its numbers");
+    gigabyte(&folder, "rows", &npy_whole("(44739242, 3)", &[]));
+    rows_refused(&folder, "nodes.txt", "rows", 1, "rows: refused, number 11 (too large)");
 }
 
 #[test]
@@ -426,6 +620,7 @@ fn file_without_end() {
         &["energy", "square.npy", "--values", "/dev/zero"],
         "too long for nodal values",
     );
+    rows_refused(&folder, "/dev/zero", "panels.txt", 2, "/dev/zero: too long for nodes");
 }
 
 #[test]
@@ -480,6 +675,9 @@ fn any_bytes_at_all() {
             vec!["density", "any"],
             vec!["energy", "square.npy", "--values", "any"],
             vec!["plot", "any", "-o", "any.svg"],
+            vec!["write", "any", "-o", "any.pnl"],
+            vec!["write", "any", "panels.txt", "-o", "any.pnl"],
+            vec!["write", "nodes.txt", "any", "-o", "any.pnl"],
         ] {
             let ran = folder.run(&words);
             assert!(matches!(ran.status, Some(0..=2)), "{words:?} {ran:?}");

@@ -1,6 +1,6 @@
-//! What the tool writes: matrices as NumPy reads them, panel files, pictures, and pipes that close early.
+//! What the tool writes: matrices as NumPy reads them, panel files byte by byte, pictures, and pipes that close early.
 mod common;
-use common::{Folder, npy, square};
+use common::{Folder, npy, npy_whole, square, square_file};
 use screens::{QuadratureKind, TriangleMesh, triangle_mesh_inductance_matrix};
 use std::path::Path;
 use std::process::Stdio;
@@ -97,6 +97,146 @@ fn a_move_notes_cells_that_differ_from_their_mirror() {
     let refused = folder.run(&line.replace("--node 3", "--node 4").split(' ').collect::<Vec<_>>());
     assert_eq!(refused.status, Some(1));
     assert!(!refused.err.contains("note"), "{}", refused.err);
+}
+
+/// A strip of so many nodes with a panel for every three in a row, as many as are asked for: rows of both, and the panel file.
+fn strip(nodes: u16, panels: u16) -> (Vec<f64>, Vec<i64>, Vec<u8>) {
+    let node = |k: u16| [f64::from(k), f64::from(k % 2), 0.1];
+    let panel = |i: u16| [0, 1, 2].map(|corner| i % (nodes - 2) + corner);
+    let x: Vec<f64> = (0..nodes).flat_map(node).collect();
+    let t: Vec<u16> = (0..panels).flat_map(panel).collect();
+    let mut file = b"PNL\x01\x00".to_vec();
+    file.extend([nodes, panels].map(u16::to_le_bytes).as_flattened());
+    file.extend(x.iter().flat_map(|x| x.to_le_bytes()));
+    file.extend(t.iter().flat_map(|k| k.to_le_bytes()));
+    (x, t.into_iter().map(i64::from).collect(), file)
+}
+
+/// A text with a row of three a line.
+fn text<T: std::fmt::Debug>(numbers: &[T]) -> Vec<u8> {
+    let line = |row: &[T]| format!("{:?} {:?} {:?}\n", row[0], row[1], row[2]);
+    numbers.chunks(3).map(line).collect::<String>().into_bytes()
+}
+
+#[test]
+fn panel_files_of_rows() {
+    let folder = Folder::new("rows");
+    let said = "nodes.txt and panels.txt: accepted\nnodes 4\npanels 2\npoor panels 0\nnodes that are not finite 0\n";
+    let ran = done(&folder, "write nodes.txt panels.txt -o out.pnl");
+    assert_eq!(ran, format!("{said}wrote out.pnl\n"));
+    assert_eq!(folder.get("out.pnl"), square_file());
+    folder.put(
+        "nodes.npy",
+        &npy("(4, 3)", &[0.0, 0.0, 0.0, 1.0, 0.0, 0.0, 0.0, 1.0, 0.0, 1.0, 1.0, 0.0]),
+    );
+    folder.put("panels.npy", &npy_whole("(2, 3)", &[0, 1, 2, 1, 3, 2]));
+    for words in ["nodes.npy panels.npy", "nodes.npy panels.txt", "nodes.txt panels.npy"] {
+        folder.put("out.pnl", b"");
+        done(&folder, &format!("write {words} -o out.pnl"));
+        assert_eq!(folder.get("out.pnl"), square_file(), "{words}");
+    }
+    // the input's own name
+    done(&folder, "write nodes.npy panels.npy -o nodes.npy");
+    assert_eq!(folder.get("nodes.npy"), square_file());
+}
+
+#[test]
+fn panel_files_of_no_rows() {
+    let folder = Folder::new("no-rows");
+    folder.put("remark.txt", b"# nothing\n\n");
+    folder.put("empty.txt", b"");
+    folder.put("nodes.npy", &npy("(0, 3)", &[]));
+    folder.put("panels.npy", &npy_whole("(0, 3)", &[]));
+    for words in ["empty.txt remark.txt", "nodes.npy panels.npy", "remark.txt panels.npy"] {
+        done(&folder, &format!("write {words} -o out.pnl"));
+        assert_eq!(folder.get("out.pnl"), b"PNL\x01\x00\x00\x00\x00\x00", "{words}");
+    }
+    done(&folder, "write nodes.txt panels.npy -o out.pnl");
+    let due = [&b"PNL\x01\x00\x04\x00\x00\x00"[..], &square_file()[9..105]].concat();
+    assert_eq!(folder.get("out.pnl"), due);
+}
+
+#[test]
+fn the_largest_panel_file() {
+    let folder = Folder::new("largest");
+    let (nodes, panels, file) = strip(4096, 8192);
+    folder.put("nodes.npy", &npy("(4096, 3)", &nodes));
+    folder.put("panels.npy", &npy_whole("(8192, 3)", &panels));
+    folder.put("nodes.txt", &text(&nodes));
+    folder.put("panels.txt", &text(&panels));
+    assert_eq!(file.len(), 147_465);
+    for words in ["nodes.npy panels.npy", "nodes.txt panels.txt"] {
+        done(&folder, &format!("write {words} -o out.pnl"));
+        assert!(folder.get("out.pnl") == file, "{words}");
+    }
+    done(&folder, "write out.pnl -o again.pnl");
+    assert!(folder.get("again.pnl") == file);
+}
+
+#[test]
+fn numbers_of_a_text_by_their_bits() {
+    let folder = Folder::new("bits");
+    folder.put(
+        "nodes.txt",
+        b"0 0 0\n1 0 0\n0 1 0\n\
+          -0 5e-324 0.1 # in no panel\n\
+          inf -INF nan\n\
+          1e999 -NaN 9007199254740993\n",
+    );
+    folder.put("panels.txt", b"0 1 2\n");
+    let said = done(&folder, "write nodes.txt panels.txt -o out.pnl");
+    assert!(said.contains("\nnodes that are not finite 2\n"), "{said}");
+    let written = folder.get("out.pnl");
+    let (numbers, _) = written[9 + 3 * 24..][..3 * 24].as_chunks::<8>();
+    let due: [u64; 9] = [
+        0x8000_0000_0000_0000,
+        1,
+        0x3fb9_9999_9999_999a,
+        0x7ff0_0000_0000_0000,
+        0xfff0_0000_0000_0000,
+        0x7ff8_0000_0000_0000,
+        0x7ff0_0000_0000_0000,
+        0x7ff8_0000_0000_0000,
+        0x4340_0000_0000_0000,
+    ];
+    assert_eq!(*numbers, due.map(u64::to_le_bytes));
+}
+
+#[test]
+fn panel_files_are_written_as_they_were() {
+    let folder = Folder::new("anew");
+    for name in ["plate.pnl", "bent.pnl", "hole.pnl", "square.pnl"] {
+        let file = folder.get(name);
+        let said = done(&folder, &format!("check {name}"));
+        assert_eq!(
+            done(&folder, &format!("write {name} -o out.pnl")),
+            said.clone() + "wrote out.pnl\n"
+        );
+        assert!(folder.get("out.pnl") == file, "{name}");
+        assert_eq!(
+            done(&folder, &format!("write {name} -o {name}")),
+            said + &format!("wrote {name}\n")
+        );
+        assert!(folder.get(name) == file, "{name}");
+    }
+}
+
+#[test]
+fn any_nan_of_a_panel_file_becomes_one() {
+    let folder = Folder::new("nan");
+    let mut file = square_file();
+    // z of node 3, whose bytes end at 105
+    file[97..105].copy_from_slice(&[1, 0, 0, 0, 0, 0, 0xf0, 0xff]);
+    folder.put("other.pnl", &file);
+    done(&folder, "write other.pnl -o other.pnl");
+    file[97..105].copy_from_slice(&[0, 0, 0, 0, 0, 0, 0xf8, 0x7f]);
+    assert_eq!(folder.get("other.pnl"), file);
+    done(&folder, "matrix other.pnl --rule 3 -o other.npy");
+    done(
+        &folder,
+        "move other.pnl other.npy --node 0 --to 0 0 0 --rule 3 -o other.npy --mesh-out moved.pnl",
+    );
+    assert_eq!(folder.get("moved.pnl"), file);
 }
 
 #[test]

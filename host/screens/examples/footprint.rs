@@ -13,14 +13,18 @@ const SMALLEST: usize = 4;
 /// A call with what it is lent, ready to run.
 type Work = Box<dyn FnOnce() + Send>;
 #[allow(clippy::type_complexity)]
-const CALLS: [(&str, fn() -> Work); 6] = [
+const CALLS: [(&str, fn() -> Work); 7] = [
     ("mesh test, 4,096 nodes, 7,938 panels", || {
         let mesh = plate(64, 64);
         Box::new(move || assert!(TriangleMeshView::new(mesh.view().nodes(), mesh.view().triangles()).is_ok()))
     }),
-    ("panel file, 4,096 nodes, 7,938 panels", || {
+    ("panel file read, 4,096 nodes, 7,938 panels", || {
         let file = plate(64, 64).to_panel_file();
         Box::new(move || assert!(TriangleMesh::from_panel_file(&file).is_ok()))
+    }),
+    ("panel file written, 4,096 nodes, 7,938 panels", || {
+        let (mesh, mut file) = (plate(64, 64), vec![0; panel_file_length(4096, 7938)]);
+        Box::new(move || assert!(write_panel_file(&mesh.view(), &mut file).is_ok()))
     }),
     ("matrix, 300 nodes, rule 5", || {
         let (mesh, mut matrix) = (plate(20, 15), vec![1.0; 300 * 300]);

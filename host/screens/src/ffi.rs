@@ -151,5 +151,7 @@ bind! {
     read_panel_file = screens_read_panel_file(
         file: &[u8], x: &mut [f64], y: &mut [f64], z: &mut [f64],
         t0: &mut [usize], t1: &mut [usize], t2: &mut [usize]) -> u32;
+    write_panel_file = screens_write_panel_file(
+        x: &[f64], y: &[f64], z: &[f64], t0: &[usize], t1: &[usize], t2: &[usize], file: &mut [u8]) -> u32;
     display = screens_display(x: number, value: &mut i64) -> u32;
 }

@@ -29,7 +29,8 @@
 //! - The warning about poor panels is a count, [`TriangleMeshView::poor_panels`].
 //! - Below its diagonal the matrix is a copy of what stands above; the original's cells (a, b) and (b, a) can part in their last
 //!   bits.
-//! - Added: [`move_node`], the rows, the panel file, [`display`], and the owned [`TriangleMesh`].
+//! - Added: [`move_node`], the rows, the panel file ([`read_panel_file`], [`write_panel_file`]), [`display`], and the owned
+//!   [`TriangleMesh`].
 //!
 //! # Stack
 //!
@@ -43,7 +44,9 @@ pub mod math;
 pub mod mesh;
 pub mod physics;
 
-pub use mesh::{TriangleMesh, TriangleMeshView, panel_file_counts, read_panel_file};
+pub use mesh::{
+    TriangleMesh, TriangleMeshView, panel_file_counts, panel_file_length, read_panel_file, write_panel_file,
+};
 pub use physics::boundary_element::*;
 pub use refusal::Refusal;
 

@@ -131,7 +131,10 @@ impl Refusal {
             NodalValues => {
                 "there must be one nodal value a node, and as many source as target values; look at the lengths"
             }
-            Output => "a buffer to be written does not have the length due; n nodes need a matrix of n × n cells",
+            Output => {
+                "a buffer to be written does not have the length due; n nodes need a matrix of n × n cells, with p panels a file \
+                 of 9 + 24n + 6p bytes"
+            }
             Matrix => {
                 "the matrix does not have n × n cells for n nodal values or nodes; look whether it is of another mesh"
             }

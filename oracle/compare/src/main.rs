@@ -1,5 +1,6 @@
 //! Compares our library, through the Rust crate `screens`, with the original Rust: cases by seed for every kind that ours
-//! answers, every result word in bits, every NaN as one number, and a matrix's cells below the diagonal as copies of those above.
+//! answers, every result word in bits, every NaN as one number, and a matrix's cells below the diagonal as copies of those above;
+//! and panel files there and back by ours.
 //! usage: compare [SEED [SCALE [KIND]]], compare soak [MINUTES [SEED [SCALE]]], or compare findings
 //! The exit status is 0 if all agree, 1 if any differ, and 2 if it was asked for something else or if a kind had no case.
 mod findings;

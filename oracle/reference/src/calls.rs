@@ -269,6 +269,11 @@ fn f64_at(bytes: &[u8], at: usize) -> f64 {
     f64::from_le_bytes(bytes[at..at + 8].try_into().unwrap())
 }
 
+/// The length in bytes of a panel file by its counts.
+pub fn file_length(nodes: usize, panels: usize) -> usize {
+    9 + 24 * nodes + 6 * panels
+}
+
 /// The panel file: 14, 11, 15, then the mesh. `behind` counts the f64s a node that stand behind the mesh.
 fn parse(bytes: &[u8], max_nodes: usize, max_panels: usize, behind: usize) -> Result<Mesh, u32> {
     if bytes.len() < 9 || &bytes[0..3] != b"PNL" || u16_at(bytes, 3) != 1 {
@@ -278,7 +283,7 @@ fn parse(bytes: &[u8], max_nodes: usize, max_panels: usize, behind: usize) -> Re
     if n > max_nodes || p > max_panels {
         return Err(11);
     }
-    if bytes.len() != 9 + 24 * n + 6 * p + 8 * behind * n {
+    if bytes.len() != file_length(n, p) + 8 * behind * n {
         return Err(15);
     }
     let mut mesh = Mesh::default();
@@ -310,7 +315,7 @@ pub fn density_program(bytes: &[u8]) -> Vec<u8> {
         Err(number) => return format!("refused {number}\n").into_bytes(),
     };
     let (n, p) = (mesh.nodes(), mesh.panels());
-    let behind = 9 + 24 * n + 6 * p;
+    let behind = file_length(n, p);
     let values: Vec<f64> = (0..n).map(|i| f64_at(bytes, behind + 8 * i)).collect();
     let density = densities(&mesh, &values, [p; 3]).unwrap();
     let mut text = format!("PNL 1 {n} {p}\n");
@@ -321,8 +326,24 @@ pub fn density_program(bytes: &[u8]) -> Vec<u8> {
     text.into_bytes()
 }
 
-/// The panel file of a mesh, with values behind it if there are any; none if a count or an index is above 16 bits.
-pub fn write_file(mesh: &Mesh, values: Option<&[f64]>) -> Option<Vec<u8>> {
+/// The panel file of a mesh: the mesh test, 6, then every NaN as one number.
+pub fn write_file(mesh: &Mesh, length: usize) -> Result<Vec<u8>, u32> {
+    accepted(mesh)?;
+    if length != file_length(mesh.nodes(), mesh.panels()) {
+        return Err(6);
+    }
+    let mut written = mesh.clone();
+    for column in [&mut written.x, &mut written.y, &mut written.z] {
+        column.iter_mut().for_each(|x| *x = f64::from_bits(canonical(*x)));
+    }
+    let bytes = encode(&written, None).expect("counts and indices of an accepted mesh");
+    assert_eq!(bytes.len(), length);
+    Ok(bytes)
+}
+
+/// The layout of the panel file for any mesh, tested or not, its numbers with the bits that they have, and with values behind
+/// it if there are any; none if a count or an index is above 16 bits.
+pub fn encode(mesh: &Mesh, values: Option<&[f64]>) -> Option<Vec<u8>> {
     let mut bytes = b"PNL\x01\x00".to_vec();
     bytes.extend(u16::try_from(mesh.nodes()).ok()?.to_le_bytes());
     bytes.extend(u16::try_from(mesh.panels()).ok()?.to_le_bytes());

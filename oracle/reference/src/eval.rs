@@ -206,10 +206,11 @@ fn call(kind: u32, i: &mut In, o: Out) -> Out {
         "row_map" => row(o, calls::row_map(i.size(), i.size(), i.size())),
         "read_file" => {
             let bytes = i.bytes();
-            o.buffers(calls::read_file(&bytes, i.lengths()), |o, m| {
-                let nodes = columns(o, &[m.x, m.y, m.z]);
-                nodes.lengths(&m.a).lengths(&m.b).lengths(&m.c)
-            })
+            o.buffers(calls::read_file(&bytes, i.lengths()), |o, mesh| o.columns(&mesh))
+        }
+        "write_file" => {
+            let mesh = i.mesh();
+            o.buffers(calls::write_file(&mesh, i.size()), |o, file| o.bytes(&file))
         }
         "density_program" => o.bytes(&calls::density_program(&i.bytes())),
         "display" => match calls::display(i.number()) {

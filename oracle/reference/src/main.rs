@@ -28,13 +28,13 @@ fn main() -> ExitCode {
             let scale = rest.first().map_or(1.0, |s| s.parse().expect("SCALE"));
             let only = rest.get(1).map(|name| named(name));
             let seed = seed.parse().expect("SEED");
-            write_file(file, |each| generate::all(seed, scale, only, each));
+            write_cases(file, |each| generate::all(seed, scale, only, each));
             true
         }
         ["stored", folder] => {
             for (name, cases) in generate::stored::files() {
                 println!("{name}.bin");
-                write_file(&format!("{folder}/{name}.bin"), |each| {
+                write_cases(&format!("{folder}/{name}.bin"), |each| {
                     cases
                         .iter()
                         .for_each(|(kind, input, results)| each(*kind, input, results));
@@ -77,7 +77,7 @@ fn each_case(file: &str, each: impl FnMut(u32, &[u64], &[u64])) {
 }
 
 /// Writes the cases that `make` hands out, and prints how many there are of each kind.
-fn write_file(file: &str, make: impl FnOnce(&mut dyn FnMut(u32, &[u64], &[u64]))) {
+fn write_cases(file: &str, make: impl FnOnce(&mut dyn FnMut(u32, &[u64], &[u64]))) {
     let mut out = BufWriter::new(std::fs::File::create(file).expect(file));
     let mut counts = BTreeMap::new();
     cases::write_mark(&mut out).unwrap();
@@ -122,15 +122,8 @@ fn statistics(file: &str) {
         if let Some(what) = matrix_given(name, input, results[0]) {
             *counts.entry(what.to_string()).or_default() += 1;
         }
-        let start = match name {
-            "mesh_test" | "densities" => 0,
-            "quadrature" | "matrix" | "move" => 1,
-            _ => return,
-        };
-        if results[0] == 0 {
-            for what in peculiar(&eval::In::new(&input[start..]).mesh()) {
-                *counts.entry(what.to_string()).or_default() += 1;
-            }
+        for what in accepted_mesh(name, input, results[0]).iter().flat_map(peculiar) {
+            *counts.entry(what.to_string()).or_default() += 1;
         }
     });
     for (kind, counts) in sorts {
@@ -170,17 +163,29 @@ fn matrix_given(name: &str, input: &[u64], number: u64) -> Option<&'static str> 
     }
 }
 
+/// The mesh of a case that has one and is not refused.
+fn accepted_mesh(name: &str, input: &[u64], number: u64) -> Option<calls::Mesh> {
+    let i = &mut eval::In::new(input);
+    match name {
+        _ if number != 0 => None,
+        "mesh_test" | "densities" | "write_file" => Some(i.mesh()),
+        "quadrature" | "matrix" | "move" => {
+            i.word();
+            Some(i.mesh())
+        }
+        "read_file" => calls::read_file(&i.bytes(), i.lengths()).ok(),
+        _ => None,
+    }
+}
+
 /// What is out of the ordinary in an accepted mesh.
 fn peculiar(mesh: &calls::Mesh) -> Vec<&'static str> {
     let triangles = || (0..mesh.panels()).map(|i| mesh.triangle(i));
     let indices = || (0..mesh.panels()).map(|i| mesh.indices(i));
-    let coordinates = || mesh.x.iter().chain(&mesh.y).chain(&mesh.z);
     let area = |t: [[f64; 3]; 3]| be::calc_tri_area(t[0], t[1], t[2]);
     let sorts = [
         ("no node", mesh.nodes() == 0),
         ("no panel", mesh.panels() == 0),
-        ("NaN coordinate", coordinates().any(|x| x.is_nan())),
-        ("infinite coordinate", coordinates().any(|x| x.is_infinite())),
         ("NaN area", triangles().any(|t| area(t).is_nan())),
         ("infinite area", triangles().any(|t| area(t).is_infinite())),
         (
@@ -192,6 +197,7 @@ fn peculiar(mesh: &calls::Mesh) -> Vec<&'static str> {
             "index twice in a panel",
             indices().any(|[a, b, c]| a == b || b == c || c == a),
         ),
+        ("index above 255", indices().flatten().any(|k| k > 255)),
         (
             "node without panel",
             (0..mesh.nodes()).any(|k| indices().all(|panel| !panel.contains(&k))),
@@ -199,19 +205,31 @@ fn peculiar(mesh: &calls::Mesh) -> Vec<&'static str> {
         ("4096 nodes", mesh.nodes() == calls::MAX_NODES),
         ("8192 panels", mesh.panels() == calls::MAX_PANELS),
     ];
-    sorts
-        .into_iter()
-        .filter(|(_, has)| *has)
-        .map(|(what, _)| what)
-        .collect()
+    let had = sorts.into_iter().chain(peculiar_coordinates(mesh));
+    had.filter(|(_, has)| *has).map(|(what, _)| what).collect()
+}
+
+/// The same of its coordinates: each sort, and whether there is one.
+fn peculiar_coordinates(mesh: &calls::Mesh) -> [(&'static str, bool); 5] {
+    let some = |sort: fn(f64) -> bool| [&mesh.x, &mesh.y, &mesh.z].into_iter().flatten().any(|&x| sort(x));
+    [
+        ("NaN coordinate", some(f64::is_nan)),
+        (
+            "NaN coordinate, not 7ff8000000000000",
+            some(|x| x.to_bits() != oracle::canonical(x)),
+        ),
+        ("infinite coordinate", some(f64::is_infinite)),
+        ("subnormal coordinate", some(f64::is_subnormal)),
+        ("-0 coordinate", some(|x| x.to_bits() == 1 << 63)),
+    ]
 }
 
 /// The refusal's number, the printed refusal, or the sort of number that the first result is.
 fn sort(name: &str, results: &[u64]) -> String {
     match name {
         "coupling" | "block" | "entry" | "mesh_test" | "quadrature" | "densities" | "matrix" | "energy2"
-        | "energy1" | "flux" | "interaction" | "move" | "row_matrix" | "row_map" | "read_file" | "display"
-        | "coupling_regular" | "contact" | "identical" | "is_far" => results[0].to_string(),
+        | "energy1" | "flux" | "interaction" | "move" | "row_matrix" | "row_map" | "read_file" | "write_file"
+        | "display" | "coupling_regular" | "contact" | "identical" | "is_far" => results[0].to_string(),
         "steps" => format!("{} class {}", results[0], results[1]),
         "density_program" => {
             let mut text = [

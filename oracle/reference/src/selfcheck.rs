@@ -1,9 +1,9 @@
-//! Checks the oracle by itself: document 01's bench sheet, the findings of docs/DIFFERENCES.md, the cells below a matrix's
-//! diagonal, the constants and tables that a port needs, and the count of poor panels against the count in the original's own
-//! warning.
+//! Checks the oracle by itself: document 01's bench sheet, panel files by their bytes, the findings of docs/DIFFERENCES.md, the
+//! cells below a matrix's diagonal, the constants and tables that a port needs, and the count of poor panels against the count
+//! in the original's own warning.
 use crate::calls::{self, Mesh};
 use crate::inner::{self, Panel, Triangle};
-use crate::{canonical, generate, rng::Rng};
+use crate::{canonical, eval::Out, generate, rng::Rng};
 use cfsem::physics::boundary_element as be;
 use num_traits::standin;
 use std::hint::black_box;
@@ -36,6 +36,7 @@ impl Sheet {
 pub fn run() -> bool {
     let mut sheet = Sheet { differ: 0 };
     bench_sheet(&mut sheet);
+    panel_files(&mut sheet);
     findings(&mut sheet);
     below_the_diagonal(&mut sheet);
     warnings(&mut sheet);
@@ -116,7 +117,7 @@ fn bench_sheet(sheet: &mut Sheet) {
     display("1e6 and five places (1e15 + 0.58)", past(5), "Err(16)");
     display("infinity", f64::INFINITY, "Err(16)");
 
-    let file = calls::write_file(&Mesh::of_panel(UNIT), Some(&[1.0, 2.0, 4.0])).unwrap();
+    let file = calls::encode(&Mesh::of_panel(UNIT), Some(&[1.0, 2.0, 4.0])).unwrap();
     sheet.line("length of the sample file", "111", file.len());
     let printed = String::from_utf8(calls::density_program(&file)).unwrap();
     let due = "PNL 1 3 1\n0 c008000000000000 3ff0000000000000 0000000000000000\n";
@@ -140,8 +141,95 @@ fn bench_sheet(sheet: &mut Sheet) {
     sheet.line(
         "file of 65536 panels",
         "None",
-        format!("{:?}", calls::write_file(&mesh, None)),
+        format!("{:?}", calls::encode(&mesh, None)),
     );
+}
+
+/// The file that is due of a mesh, or the refusal's number.
+fn written(mesh: &Mesh) -> Result<Vec<u8>, u32> {
+    calls::write_file(mesh, calls::file_length(mesh.nodes(), mesh.panels()))
+}
+
+/// Bytes in hexadecimal, two digits a byte.
+fn dump(bytes: &[u8]) -> String {
+    bytes.iter().map(|byte| format!("{byte:02x}")).collect()
+}
+
+/// Files by their bytes, worked out by hand from document 01's layout.
+fn panel_files(sheet: &mut Sheet) {
+    println!("\nPanel files");
+    let mut square = Mesh::default();
+    for node in [[0.0, 0.0, 3.0], [1.0, 0.0, 3.0], [0.0, 1.0, 3.0], [1.0, 1.0, 3.0]] {
+        square.add_node(node);
+    }
+    square.add_panel([0, 1, 2]);
+    square.add_panel([1, 3, 2]);
+    let [zero, one, three] = ["0000000000000000", "000000000000f03f", "0000000000000840"];
+    let nodes = [zero, zero, three, one, zero, three, zero, one, three, one, one, three].concat();
+    let due = format!("504e4c010004000200{nodes}000001000200010003000200");
+    sheet.line("file of a square, two panels", &due, dump(&written(&square).unwrap()));
+    let empty = written(&Mesh::default()).unwrap();
+    sheet.line("file of the empty mesh", "504e4c010000000000", dump(&empty));
+
+    let mut long = Mesh::default();
+    (0..4096).for_each(|k| long.add_node([k as f64, (k * k) as f64, 0.0]));
+    long.add_panel([4095, 256, 1]);
+    let bytes = written(&long).unwrap();
+    sheet.line(
+        "first nine bytes of 4096 nodes, one panel",
+        "504e4c010000100100",
+        dump(&bytes[..9]),
+    );
+    sheet.line("its panel 4095 256 1", "ff0f00010100", dump(&bytes[bytes.len() - 6..]));
+
+    numbers_and_refusals(sheet);
+    there_and_back(sheet);
+}
+
+/// A node's numbers in a file, and what is not written.
+fn numbers_and_refusals(sheet: &mut Sheet) {
+    let mut one = Mesh::default();
+    one.add_node([0xfff0_0000_0000_0001, 1 << 63, 0x8000_0000_0000_0001].map(f64::from_bits));
+    let due = "504e4c010001000000000000000000f87f00000000000000800100000000000080";
+    sheet.line(
+        "file of the node (NaN, -0, -5e-324)",
+        due,
+        dump(&written(&one).unwrap()),
+    );
+
+    let refused = [0, 32, 34].map(|length| calls::write_file(&one, length));
+    sheet.line(
+        "the same of length 0, 32, 34",
+        "[Err(6), Err(6), Err(6)]",
+        format!("{refused:?}"),
+    );
+    one.add_panel([0, 1, 0]);
+    let refused = calls::write_file(&one, 0);
+    sheet.line("with a missing node, of length 0", "Err(3)", format!("{refused:?}"));
+}
+
+/// The reference's writer and reader, which have only the length in common, on each other's answers.
+fn there_and_back(sheet: &mut Sheet) {
+    let (mut of_meshes, mut of_files) = (vec![], vec![]);
+    let words = |mesh: &Mesh| Out::default().columns(mesh).0;
+    for mesh in meshes(1, MESHES) {
+        let Ok(file) = written(&mesh) else { continue };
+        let (n, p) = (mesh.nodes(), mesh.panels());
+        let read = |file: &[u8]| calls::read_file(file, [n, n, n, p, p, p]);
+        of_meshes.push(read(&file).map(|back| words(&back)) == Ok(words(&mesh)));
+        if ![&mesh.x, &mesh.y, &mesh.z].into_iter().flatten().any(|x| x.is_nan()) {
+            let file = calls::encode(&mesh, None).unwrap();
+            of_files.push(read(&file).and_then(|back| written(&back)) == Ok(file));
+        }
+    }
+    println!(
+        "{} meshes written and read, {} files without NaN read and written",
+        of_meshes.len(),
+        of_files.len()
+    );
+    let otherwise = |given_back: &[bool]| given_back.iter().filter(|same| !**same).count();
+    sheet.line("meshes that are not given back", "0", otherwise(&of_meshes));
+    sheet.line("files that are not given back", "0", otherwise(&of_files));
 }
 
 fn findings(sheet: &mut Sheet) {

@@ -6,8 +6,10 @@ use native.Mathlib.Omega.{arith}
 use denote.Ref.{now}
 use Rattle.panel_file.specs.LittleEndian.{rowsFrom}
 use Rattle.panel_file.proofs.Accepted.{clean, marked}
-use Rattle.density_text.specs.Text.{inputRefusal, firstLine, panelLine, densities, text, Put, Input}
-use Rattle.density_text.proofs.Putting.{both, counted}
+use Rattle.lists.specs.Putting.{Put}
+use Rattle.density_text.specs.Text.{inputRefusal, firstLine, panelLine, densities, text, Input}
+use Rattle.lists.proofs.Putting.{both}
+use Rattle.density_text.proofs.Counted.{counted}
 use Rattle.density_text.proofs.Numerals.{first-short}
 use Rattle.density_text.proofs.Inputs.{small, text-refused, text-accepted, few-nodes, few-panels}
 use borrow.Author.Needs.{needs}

@@ -5,7 +5,8 @@ use Prim.Native.Nat.{ℕ}
 use native.Mathlib.Omega.{arith}
 use denote.Ref.{now}
 use lib.ListN.{length, take}
-use Rattle.density_text.specs.Text.{decimal, Put}
+use Rattle.lists.specs.Putting.{Put}
+use Rattle.density_text.specs.Text.{decimal}
 use Rattle.density_text.proofs.Numerals.{decimal-is, decimal-short}
 use borrow.Author.Needs.{needs}
 use Rattle.density_text.proofs.put_decimal.Statement.{statement}

@@ -6,8 +6,10 @@ use native.Mathlib.Omega.{arith}
 use denote.Ref.{now}
 use lib.ListN.{length, take}
 use Rattle.io.specs.Digits.{digits}
-use Rattle.density_text.specs.Text.{canonicalBits, field, Put}
-use Rattle.density_text.proofs.Putting.{both}
+use Rattle.ieee754.specs.Ieee754.{canonicalBits}
+use Rattle.lists.specs.Putting.{Put}
+use Rattle.density_text.specs.Text.{field}
+use Rattle.lists.proofs.Putting.{both}
 use Rattle.density_text.proofs.Numerals.{sixteen, digits-length}
 use borrow.Author.Needs.{needs}
 use Rattle.density_text.proofs.put_field.Statement.{statement}

@@ -1,7 +1,7 @@
 -- The parts of the line are put one behind the other.
 use native.Mathlib.Omega.{arith}
 use denote.Ref.{now}
-use Rattle.density_text.proofs.Putting.{both}
+use Rattle.lists.proofs.Putting.{both}
 use Rattle.binary64.specs.Binary64.{at}
 use Rattle.density_text.specs.Text.{decimal, field, line}
 use Rattle.density_text.proofs.Numerals.{decimal-short, field-length}

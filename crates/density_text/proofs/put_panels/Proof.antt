@@ -8,8 +8,10 @@ use denote.Ref.{now}
 use lib.Ieee.{Float}
 use lib.ListN.{length}
 use Rattle.panel_file.specs.LittleEndian.{rowsFrom}
-use Rattle.density_text.specs.Text.{line, panelLine, Put}
-use Rattle.density_text.proofs.Putting.{none, both, more-lines, lines-bound}
+use Rattle.lists.specs.Putting.{Put}
+use Rattle.density_text.specs.Text.{line, panelLine}
+use Rattle.lists.proofs.Putting.{none, both}
+use Rattle.panel_file.proofs.Fields.{more-rows, rows-bound}
 use Rattle.density_text.proofs.Numerals.{line-short}
 use Rattle.density_text.proofs.put_panels.Statement.{statement}
 use Rattle.density_text.proofs.put_panels.Tie as tie
@@ -17,7 +19,7 @@ use Rattle.density_text.proofs.put_panels.Tie as tie
 -- lines of at most 55 bytes
 short : (b : List ℕ) (i : ℕ) → length (rowsFrom (panelLine b) 0 i) ≤ i * 55
 unfolding panelLine
-short b i = lines-bound (panelLine b) 55 (λ k. line-short k _) 0 i
+short b i = rows-bound (panelLine b) 55 (λ k. line-short k _) 0 i
 
 abbrev Inv-loop : tie.InvT-loop
 Inv-loop out₀ from bytes n p to₀ i₀ out to i = (i ≤ p) × (length out ≡ length out₀) × Put out₀ from (rowsFrom (panelLine bytes) 0 i) out to
@@ -27,7 +29,7 @@ abbrev μ-loop : tie.MeasureT-loop
 
 loop-holds : tie.Need-loop-holds Inv-loop μ-loop
 unfolding rowsFrom
-loop-holds c = let s = c .before .before in (omega arith, refl, none (now (s .args .out)) (s .args .from) (omega (arith, s .pre .2)))
+loop-holds c = let s = c .before .before in (omega arith, refl, none (now (s .args .out)) (s .args .from))
 
 loop-again : tie.Need-loop-again Inv-loop μ-loop
 unfolding panelLine
@@ -40,7 +42,7 @@ loop-again c =
     let h : l .i < s .args .p = omega (arith, c4 .before .loop-test .taken) in
     let one = subst (λ (j : List Float). Put (l .out) (l .to) (line (l .i) j) (c .before .before .put-panel .last .0) (c .before .before .put-panel .result)) (c .before .before .before .density .ensures) (c .before .before .put-panel .ensures) in
     let two = both (now (s .args .out)) (s .args .from) (rowsFrom (panelLine b) 0 (l .i)) (l .out) (l .to) (panelLine b (l .i)) _ _ (omega (arith, h, s .pre .2, short b (l .i))) (l .inv .2) one in
-    (omega (arith, h), c .before .before .put-panel .kept .0 ∙ l .inv .1, subst (λ (t : List ℕ). Put (now (s .args .out)) (s .args .from) t (c .before .before .put-panel .last .0) (c .before .before .put-panel .result)) (more-lines (panelLine b) (l .i)) two)
+    (omega (arith, h), c .before .before .put-panel .kept .0 ∙ l .inv .1, subst (λ (t : List ℕ). Put (now (s .args .out)) (s .args .from) t (c .before .before .put-panel .last .0) (c .before .before .put-panel .result)) (more-rows (panelLine b) (l .i)) two)
 
 same-length : tie.Need-same-length Inv-loop μ-loop
 same-length c = c .before .loop .inv .1

@@ -31,15 +31,5 @@ fn run(words: Vec<OsString>) -> Result<String, Failure> {
     let path = args.path("FILE")?;
     args.end()?;
     let mesh = panels::read(&path)?;
-    let view = mesh.view();
-    let strange = (0..view.nnode())
-        .filter(|&i| view.node(i).iter().any(|x| !x.is_finite()))
-        .count();
-    Ok(format!(
-        "{}: accepted\nnodes {}\npanels {}\npoor panels {}\nnodes that are not finite {strange}\n",
-        path.display(),
-        view.nnode(),
-        view.len(),
-        view.poor_panels(),
-    ))
+    Ok(panels::accepted(&path.display().to_string(), &mesh.view()))
 }

@@ -6,6 +6,7 @@ mod matrix;
 mod move_node;
 mod plot;
 mod row;
+mod write;
 
 use crate::failure::Failure;
 use std::ffi::OsString;
@@ -17,8 +18,9 @@ pub(crate) struct Command {
     pub(crate) run: fn(Vec<OsString>) -> Result<String, Failure>,
 }
 
-const COMMANDS: [Command; 7] = [
+const COMMANDS: [Command; 8] = [
     check::COMMAND,
+    write::COMMAND,
     matrix::COMMAND,
     row::COMMAND,
     energy::COMMAND,

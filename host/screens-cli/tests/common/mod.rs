@@ -23,13 +23,16 @@ impl Folder {
         folder
     }
 
-    /// `square.pnl`, a square metre of two panels, its matrix `square.npy` under rule 3, nodal values in `values.txt`, and
-    /// `strange.pnl`, the square with a node that is not finite, a poor panel and a node in no panel.
+    /// `square.pnl`, a square metre of two panels, its nodes and panels as text in `nodes.txt` and `panels.txt`, its matrix
+    /// `square.npy` under rule 3, nodal values in `values.txt`, and `strange.pnl`, the square with a node that is not finite, a
+    /// poor panel and a node in no panel.
     fn small_screen(&self) {
         let mesh = square();
         let mut matrix = vec![0.0; 16];
         triangle_mesh_inductance_matrix(&mesh.view(), QuadratureKind::Dunavant3, &mut matrix).unwrap();
-        self.put("square.pnl", &mesh.to_panel_file());
+        self.put("square.pnl", &square_file());
+        self.put("nodes.txt", b"# x y z\n0 0 0\n1 0 0\n0 1 0\n1 1 0\n");
+        self.put("panels.txt", b"0 1 2\n1 3 2\n");
         self.put("square.npy", &npy("(4, 4)", &matrix));
         self.put("values.txt", b"1 2 4 8 # amperes\n");
         self.put("strange.pnl", &strange().to_panel_file());
@@ -95,6 +98,14 @@ pub(crate) fn square() -> TriangleMesh {
     TriangleMesh::new(nodes, (vec![0, 1], vec![1, 3], vec![2, 2])).unwrap()
 }
 
+/// The panel file of the square, by hand.
+pub(crate) fn square_file() -> Vec<u8> {
+    let (zero, one) = ([0; 8], [0, 0, 0, 0, 0, 0, 0xf0, 0x3f]);
+    let nodes = [zero, zero, zero, one, zero, zero, zero, one, zero, one, one, zero];
+    let panels = [0, 0, 1, 0, 2, 0, 1, 0, 3, 0, 2, 0];
+    [&b"PNL\x01\x00\x04\x00\x02\x00"[..], nodes.as_flattened(), &panels].concat()
+}
+
 fn strange() -> TriangleMesh {
     let (x, y) = (
         vec![0.0, 1.0, 0.0, f64::NAN, 0.5, 9.0],
@@ -103,12 +114,22 @@ fn strange() -> TriangleMesh {
     TriangleMesh::new((x, y, vec![0.0; 6]), (vec![0, 1, 0], vec![1, 3, 1], vec![2, 2, 4])).unwrap()
 }
 
-/// A NumPy file of version 1 with a shape.
+/// A NumPy file of float64 of version 1 with a shape.
 pub(crate) fn npy(shape: &str, numbers: &[f64]) -> Vec<u8> {
-    let text = format!("{{'descr': '<f8', 'fortran_order': False, 'shape': {shape}, }}");
+    npy_of("<f8", "False", shape, numbers.iter().map(|x| x.to_le_bytes()))
+}
+
+/// The same of int64.
+pub(crate) fn npy_whole(shape: &str, numbers: &[i64]) -> Vec<u8> {
+    npy_of("<i8", "False", shape, numbers.iter().map(|x| x.to_le_bytes()))
+}
+
+/// A NumPy file with any entries.
+pub(crate) fn npy_of(descr: &str, fortran: &str, shape: &str, numbers: impl Iterator<Item = [u8; 8]>) -> Vec<u8> {
+    let text = format!("{{'descr': '{descr}', 'fortran_order': {fortran}, 'shape': {shape}, }}");
     let text = format!("{text:<117}\n");
     let mut file = b"\x93NUMPY\x01\x00\x76\x00".to_vec();
     file.extend(text.bytes());
-    file.extend(numbers.iter().flat_map(|x| x.to_le_bytes()));
+    file.extend(numbers.flatten());
     file
 }

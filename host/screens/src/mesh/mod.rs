@@ -6,7 +6,7 @@ mod view;
 pub mod elements;
 
 pub use owned::TriangleMesh;
-pub use panel_file::{panel_file_counts, read_panel_file};
+pub use panel_file::{panel_file_counts, panel_file_length, read_panel_file, write_panel_file};
 pub use view::TriangleMeshView;
 
 /// The most nodes that a mesh may have.

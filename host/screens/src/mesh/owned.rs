@@ -1,5 +1,5 @@
 //! A mesh that owns its columns.
-use super::panel_file::{encode, panel_file_counts, read_panel_file};
+use super::panel_file::{panel_file_counts, panel_file_length, read_panel_file, write_panel_file};
 use super::view::TriangleMeshView;
 use crate::Refusal;
 use crate::physics::boundary_element::{QuadratureKind, move_node};
@@ -80,9 +80,12 @@ impl TriangleMesh {
         Ok(mesh)
     }
 
-    /// The panel file of the mesh, which [`TriangleMesh::from_panel_file`] reads back bit for bit.
+    /// The panel file of the mesh, by [`write_panel_file`]. [`TriangleMesh::from_panel_file`] reads each number back bit for bit,
+    /// NaN counting as one. `==` compares as f64 does: a mesh with a NaN equals none, itself neither.
     pub fn to_panel_file(&self) -> Vec<u8> {
-        encode(&self.view())
+        let mut file = vec![0; panel_file_length(self.x.len(), self.t0.len())];
+        write_panel_file(&self.view(), &mut file).expect("the mesh was tested");
+        file
     }
 
     /// The mesh as the calls take it.

@@ -1,5 +1,6 @@
 /* Calls every function of screens.h once with a known answer, and once for each refusal that only a C caller can ask for; of
-   matrix and move it looks at every cell of a small screen. Prints a line a failed check; the exit status is 1 if there is one. */
+   matrix and move it looks at every cell of a small screen, of a written file at every byte. Prints a line a failed check; the
+   exit status is 1 if there is one. */
 #include "screens.h"
 #include <math.h>
 #include <stdio.h>
@@ -302,6 +303,116 @@ static void files(void) {
     CHECK(screens_display(NAN, &value) == 16 && value == 0);
 }
 
+/* the file of a square metre of two panels, by hand: 1 is 3ff0000000000000 */
+static const double sx[] = {0, 1, 0, 1}, sy[] = {0, 0, 1, 1}, sz[] = {0, 0, 0, 0};
+#define SQUARE sx, 4, sy, 4, sz, 4, t0, 2, t1, 2, t2, 2
+static const uint8_t square_file[117] = {'P', 'N', 'L', 1, 0, 4, 0, 2, 0, [39] = 0xf0, 0x3f, [71] = 0xf0, 0x3f,
+    [87] = 0xf0, 0x3f, [95] = 0xf0, 0x3f, [105] = 0, 0, 1, 0, 2, 0, 1, 0, 3, 0, 2, 0};
+
+/* as many bytes as the largest file has, and one behind them */
+static uint8_t bytes[147466];
+
+static void mark(void) {
+    for (size_t i = 0; i < sizeof bytes; i++)
+        bytes[i] = (uint8_t)(31 * i + 7);
+}
+
+static int marked_from(size_t from) {
+    for (size_t i = from; i < sizeof bytes; i++)
+        if (bytes[i] != (uint8_t)(31 * i + 7))
+            return 0;
+    return 1;
+}
+
+static void written_files(void) {
+    const uint8_t empty[9] = {'P', 'N', 'L', 1, 0, 0, 0, 0, 0};
+    mark();
+    CHECK(screens_write_panel_file(SQUARE, bytes, 117) == 0);
+    CHECK(memcmp(bytes, square_file, 117) == 0 && marked_from(117));
+    mark();
+    CHECK(screens_write_panel_file(sx, 0, sy, 0, sz, 0, t0, 0, t1, 0, t2, 0, bytes, 9) == 0);
+    CHECK(memcmp(bytes, empty, 9) == 0 && marked_from(9));
+}
+
+/* numbers by their bits, on no panel and on one, whose area is NaN; what is due is little-endian */
+static void written_numbers(size_t panels) {
+    const uint64_t bits[9] = {0x8000000000000000, 1, 0x7ff0000000000000, 0xfff0000000000000, 0xffffffffffffffff,
+        0x7ff0000000000001, 0x7ff8000000000000, 0xfff8000000000000, 0x7fefffffffffffff};
+    const uint64_t nan = 0x7ff8000000000000;
+    const size_t k0[] = {0}, k1[] = {1}, k2[] = {2}, length = 81 + 6 * panels;
+    double v[9], a[3], b[3], c[3];
+    size_t i[] = {7}, j[] = {7}, k[] = {7};
+    memcpy(v, bits, sizeof v);
+    mark();
+    CHECK(screens_write_panel_file(v, 3, v + 3, 3, v + 6, 3, k0, panels, k1, panels, k2, panels, bytes, length) == 0);
+    CHECK(marked_from(length));
+    CHECK(screens_read_panel_file(bytes, length, a, 3, b, 3, c, 3, i, panels, j, panels, k, panels) == 0);
+    CHECK(panels == 0 ? i[0] == 7 : i[0] == 0 && j[0] == 1 && k[0] == 2);
+    for (size_t n = 0; n < 9; n++) {
+        uint64_t word = 0, due = 4 <= n && n <= 7 ? nan : bits[n];
+        double read = n < 3 ? a[n] : n < 6 ? b[n - 3] : c[n - 6];
+        for (size_t byte = 8; byte-- > 0;)
+            word = word << 8 | bytes[9 + 24 * (n % 3) + 8 * (n / 3) + byte];
+        CHECK(word == due);
+        CHECK(due == nan ? isnan(read) : memcmp(&read, &due, 8) == 0);
+    }
+}
+
+/* a strip of nodes, with a panel for every three in a row, and one more of each than can be accepted */
+static double lx[4097], ly[4097], lz[4097], rx[4096], ry[4096], rz[4096];
+static size_t l0[8193], l1[8193], l2[8193], r0[8192], r1[8192], r2[8192];
+#define STRIP(n, p) lx, n, ly, n, lz, n, l0, p, l1, p, l2, p
+
+static void make_strip(void) {
+    for (size_t i = 0; i < 4097; i++)
+        lx[i] = (double)i, ly[i] = (double)(i % 2);
+    for (size_t i = 0; i < 8193; i++)
+        l0[i] = i % 4094, l1[i] = i % 4094 + 1, l2[i] = i % 4094 + 2;
+}
+
+static void largest_file(void) {
+    make_strip();
+    mark();
+    CHECK(screens_write_panel_file(STRIP(4096, 8192), bytes, 147465) == 0 && marked_from(147465));
+    CHECK(bytes[5] == 0 && bytes[6] == 16 && bytes[7] == 0 && bytes[8] == 32);
+    CHECK(screens_read_panel_file(bytes, 147465, rx, 4096, ry, 4096, rz, 4096, r0, 8192, r1, 8192, r2, 8192) == 0);
+    CHECK(memcmp(lx, rx, sizeof rx) == 0 && memcmp(ly, ry, sizeof ry) == 0 && memcmp(lz, rz, sizeof rz) == 0);
+    CHECK(memcmp(l0, r0, sizeof r0) == 0 && memcmp(l1, r1, sizeof r1) == 0 && memcmp(l2, r2, sizeof r2) == 0);
+}
+
+#define REFUSED(number, ...)                                                            \
+    do {                                                                                \
+        mark();                                                                         \
+        CHECK(screens_write_panel_file(__VA_ARGS__) == (number) && marked_from(0));     \
+    } while (0)
+
+/* of most another number applies too, which is looked for behind the one given */
+static void refused_files(void) {
+    const size_t wide[] = {0, 4}, huge[] = {0, SIZE_MAX}, twice[] = {1, 1};
+    make_strip();
+    REFUSED(1, sx, 3, sy, 4, sz, 4, t0, 2, t1, 2, t2, 2, bytes, 117);
+    REFUSED(1, sx, 4, sy, 3, sz, 4, t0, 2, t1, 1, t2, 2, bytes, 117);
+    REFUSED(1, sx, 4, sy, 4, sz, 3, t0, 2, t1, 2, t2, 2, bytes, 117);
+    REFUSED(2, sx, 4, sy, 4, sz, 4, t0, 1, t1, 2, t2, 2, bytes, 117);
+    REFUSED(2, sx, 4, sy, 4, sz, 4, t0, 2, t1, 1, t2, 2, bytes, 117);
+    REFUSED(2, lx, 4097, ly, 4097, lz, 4097, t0, 2, t1, 2, t2, 1, bytes, 117);
+    REFUSED(11, STRIP(4097, 2), bytes, 9 + 24 * 4097 + 6 * 2);
+    REFUSED(11, STRIP(4, 8193), bytes, 9 + 24 * 4 + 6 * 8193);
+    REFUSED(11, STRIP(4096, 8193), bytes, 147466);
+    REFUSED(3, sx, 4, sy, 4, sz, 4, t0, 2, t1, 2, wide, 2, bytes, 117);
+    REFUSED(3, sx, 4, sy, 4, sz, 4, huge, 2, t1, 2, t2, 2, bytes, 117);
+    REFUSED(3, sx, 4, sy, 4, sz, 4, t0, 2, wide, 2, t2, 2, bytes, 116);
+    REFUSED(3, sx, 4, sy, 4, sz, 4, t0, 2, twice, 2, wide, 2, bytes, 117);
+    REFUSED(4, sx, 4, sy, 4, sz, 4, t0, 2, twice, 2, t2, 2, bytes, 117);
+    REFUSED(4, sx, 4, sy, 4, sz, 4, t0, 2, twice, 2, t2, 2, bytes, 118);
+    REFUSED(6, SQUARE, bytes, 116);
+    REFUSED(6, SQUARE, bytes, 118);
+    REFUSED(6, SQUARE, bytes, 0);
+    REFUSED(6, STRIP(4096, 8192), bytes, 147464);
+    REFUSED(6, STRIP(4096, 8192), bytes, 147466);
+    REFUSED(6, sx, 0, sy, 0, sz, 0, t0, 0, t1, 0, t2, 0, bytes, 8);
+}
+
 int main(void) {
     arithmetic();
     vectors();
@@ -313,6 +424,11 @@ int main(void) {
     moves_keep_symmetry();
     matrices();
     files();
+    written_files();
+    written_numbers(0);
+    written_numbers(1);
+    largest_file();
+    refused_files();
     printf("%d checks, %d failed\n", checks, failed);
     return failed != 0;
 }

@@ -1,5 +1,5 @@
 //! Meshes, whole and damaged.
-use super::numbers::{any_number, ulps};
+use super::numbers::{any_number, easily_lost, ulps};
 use super::panels::{Style, area_edge, point, quality_edge, style};
 use crate::calls::Mesh;
 use crate::inner::Triangle;
@@ -66,14 +66,20 @@ fn patch(r: &mut Rng, max_nodes: usize, max_panels: usize) -> Mesh {
     }
     if r.one_in(6) {
         let k = r.index(mesh.nodes());
-        let column = match r.index(3) {
-            0 => &mut mesh.x,
-            1 => &mut mesh.y,
-            _ => &mut mesh.z,
-        };
-        column[k] = any_number(r);
+        let place = coordinate(r, &mut mesh, k);
+        *place = any_number(r);
     }
     mesh
+}
+
+/// One of a node's three coordinates.
+fn coordinate<'a>(r: &mut Rng, mesh: &'a mut Mesh, node: usize) -> &'a mut f64 {
+    let column = match r.index(3) {
+        0 => &mut mesh.x,
+        1 => &mut mesh.y,
+        _ => &mut mesh.z,
+    };
+    &mut column[node]
 }
 
 /// Two unit panels apart or one above the other, near, far and on the limit; sometimes one of them twice.
@@ -307,6 +313,27 @@ pub fn for_columns(r: &mut Rng) -> Mesh {
     } else {
         damaged_one_in(r, 5, 8, 6)
     }
+}
+
+/// A mesh to be written: sometimes damaged; sometimes with a coordinate whose bits are easily lost, on any node or on one
+/// without panels, where the mesh test does not look; seldom one whose counts and indices take both of their bytes.
+pub fn to_write(r: &mut Rng) -> Mesh {
+    if r.one_in(200) {
+        let nodes = r.pick(&[255, 256, 257, 1000, 4096]);
+        return sheet(r, nodes);
+    }
+    let mut mesh = damaged_one_in(r, 3, 9, 8);
+    if r.one_in(6) && whole(&mesh) {
+        let alone = mesh.nodes() == 0 || r.one_in(2);
+        if alone {
+            mesh.add_node([1.0; 3]);
+        }
+        let n = mesh.nodes();
+        let node = if alone { n - 1 } else { r.index(n) };
+        let place = coordinate(r, &mut mesh, node);
+        *place = easily_lost(r);
+    }
+    mesh
 }
 
 /// Mostly the length due.

@@ -153,6 +153,11 @@ pub fn one(kind: u32, r: &mut Rng) -> Vec<u64> {
             o.bytes(&bytes).lengths(&lengths)
         }
         "density_program" => o.bytes(&file(r, true).0),
+        "write_file" => {
+            let mesh = meshes::to_write(r);
+            let due = calls::file_length(mesh.nodes(), mesh.panels());
+            o.mesh(&mesh).size(length_near(r, due))
+        }
         name => panic!("no generator for {name}"),
     }
     .0
@@ -247,7 +252,7 @@ fn file(r: &mut Rng, with_values: bool) -> (Vec<u8>, Mesh) {
     }
     let nodal = values(r, mesh.nodes());
     let behind = with_values.then_some(&nodal[..]);
-    let mut bytes = calls::write_file(&mesh, behind).expect("small counts");
+    let mut bytes = calls::encode(&mesh, behind).expect("small counts");
     match r.below(12) {
         0 => bytes[r.index(9)] ^= 1 << r.below(8),
         1 => bytes.truncate(r.index(bytes.len() + 1)),
@@ -346,6 +351,26 @@ fn limits() -> Vec<(&'static str, Out)> {
     cases.push(("quadrature", input().word(2).mesh(&filled(3, 8193)).lengths(&[0; 4])));
     // Accepted, one panel many times: the order of the additions shows.
     cases.push(("matrix", input().word(2).mesh(&filled(3, 300)).size(9)));
+    cases.extend(file_limits());
+    cases
+}
+
+/// The same for files: the longest, one whose panels name all its nodes, and one node or panel too many.
+fn file_limits() -> Vec<(&'static str, Out)> {
+    let input = Out::default;
+    let mut cases = vec![];
+    for mesh in [filled(4096, 8192), meshes::sheet(&mut Rng(1), 4096)] {
+        let (n, p) = (mesh.nodes(), mesh.panels());
+        let due = calls::file_length(n, p);
+        cases.push(("write_file", input().mesh(&mesh).size(due)));
+        cases.push(("write_file", input().mesh(&mesh).size(due - 1)));
+        let bytes = calls::encode(&mesh, None).expect("counts of 16 bits");
+        cases.push(("read_file", input().bytes(&bytes).lengths(&[n, n, n, p, p, p])));
+    }
+    for (nodes, panels) in [(4097, 1), (3, 8193)] {
+        let due = calls::file_length(nodes, panels);
+        cases.push(("write_file", input().mesh(&filled(nodes, panels)).size(due)));
+    }
     cases
 }
 

@@ -72,6 +72,20 @@ fn subnormal(r: &mut Rng) -> f64 {
     f64::from_bits(r.word() & 0x800fffffffffffff)
 }
 
+/// A number whose bits are easily lost: NaN of any sign and payload, -0, an infinity, a subnormal number.
+pub fn easily_lost(r: &mut Rng) -> f64 {
+    match r.below(6) {
+        0..3 => {
+            let any = r.word() >> 12 | 1;
+            let payload = r.pick(&[1, 1 << 51, (1 << 52) - 1, any]);
+            f64::from_bits(r.word() & 1 << 63 | 0x7ff << 52 | payload)
+        }
+        3 => -0.0,
+        4 => either_sign(r, f64::INFINITY),
+        _ => subnormal(r),
+    }
+}
+
 fn either_sign(r: &mut Rng, x: f64) -> f64 {
     if r.one_in(2) { -x } else { x }
 }

@@ -11,11 +11,11 @@ use crate::rng::Rng;
 const SEED: u64 = 35;
 /// How many small cases there are of a kind.
 const SMALL: usize = 70;
-/// The most words of a small case, and the longest matrix or map whose row it asks for.
+/// The most words of a small case, and the greatest length of what it has lent beside them.
 const SMALL_WORDS: usize = 512;
 
 /// What `oracle_meshes` replays.
-const MESHES: [&str; 12] = [
+const MESHES: [&str; 13] = [
     "mesh_test",
     "quadrature",
     "densities",
@@ -28,6 +28,7 @@ const MESHES: [&str; 12] = [
     "read_file",
     "density_program",
     "display",
+    "write_file",
 ];
 /// What `oracle_matrices` replays.
 const MATRICES: [&str; 2] = ["matrix", "move"];
@@ -48,6 +49,7 @@ pub fn files() -> Vec<(&'static str, Vec<Case>)> {
     matrices.extend(larger(&[20, 21, 22, 23, 24], 2));
     let mut large = larger(&[28, 36, 44, 52, 60], 1);
     large.extend(too_large());
+    large.push(long_file());
     let files = [
         ("calls", calls, "gradient"),
         ("meshes", meshes, "densities"),
@@ -66,20 +68,28 @@ pub fn files() -> Vec<(&'static str, Vec<Case>)> {
 fn small(names: &[&str]) -> Vec<Case> {
     let mut cases = vec![];
     for kind in (1..=eval::NAMES.len() as u32).filter(|kind| names.contains(&eval::name(*kind))) {
-        let row = eval::name(kind).starts_with("row_");
         let mut r = Rng(SEED.wrapping_mul(0x2545f4914f6cdd1d) ^ ((kind as u64) << 48));
         let mut left = SMALL;
         while left > 0 {
             let input = one(kind, &mut r);
             let results = eval(kind, &input);
             let words = 2 + input.len() + results.len();
-            if words <= SMALL_WORDS && !(row && input[0] > SMALL_WORDS as u64) {
+            if words <= SMALL_WORDS && lent(eval::name(kind), &input) <= SMALL_WORDS as u64 {
                 cases.push((kind, input, results));
                 left -= 1;
             }
         }
     }
     cases
+}
+
+/// The length of what a case has lent that is not among its words: the matrix or map whose row it asks for, or a file's bytes.
+fn lent(name: &str, input: &[u64]) -> u64 {
+    match name {
+        "row_matrix" | "row_map" => input[0],
+        "write_file" => input[input.len() - 1],
+        _ => 0,
+    }
 }
 
 /// A case that must have this refusal's number, 0 for done.
@@ -125,7 +135,7 @@ fn larger(counts: &[usize], times: usize) -> Vec<Case> {
 /// A file whose panel has its corners on a line, with columns of the lengths due.
 fn zero_area() -> Out {
     let mesh = Mesh::of_panel([[0.0, 0.0, 0.0], [1.0, 1.0, 1.0], [3.0, 3.0, 3.0]]);
-    let bytes = calls::write_file(&mesh, None).expect("small counts");
+    let bytes = calls::encode(&mesh, None).expect("small counts");
     Out::default().bytes(&bytes).lengths(&[3, 3, 3, 1, 1, 1])
 }
 
@@ -144,6 +154,13 @@ fn too_large() -> Vec<Case> {
             11,
         ),
     ]
+}
+
+/// A file whose counts and many of whose indices take both of their bytes.
+fn long_file() -> Case {
+    let mesh = meshes::sheet(&mut Rng(SEED), 300);
+    let length = calls::file_length(mesh.nodes(), mesh.panels());
+    answered("write_file", Out::default().mesh(&mesh).size(length), 0)
 }
 
 /// The first of the cases of a kind that have the most results, with the lowest bit of its last result flipped: who compares

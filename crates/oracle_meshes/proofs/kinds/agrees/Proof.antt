@@ -10,16 +10,21 @@ returns c =
     let c8 = c4 .before .before .before .before in
     let c12 = c8 .before .before .before .before in
     let c16 = c12 .before .before .before .before in
+    let c20 = c16 .before .before .before .before in
     rw (
-      ← c16 .before .before .before .words .ensures,
-      ← c16 .before .numbers .ensures,
-      ← c12 .before .before .before .places .ensures,
-      ← c8 .before .before .before .agree .ensures,
-      ← c8 .agree2 .ensures,
-      ← c4 .before .agree3 .ensures,
-      ← c .before .before .agree4 .ensures,
-      ← c .agree5 .ensures,
+      ← c20 .before .before .before .words .ensures,
+      ← c20 .before .numbers .ensures,
+      ← c16 .before .before .before .places .ensures,
+      ← c12 .before .before .before .agree .ensures,
+      ← c12 .agree2 .ensures,
+      ← c8 .before .agree3 .ensures,
+      ← c4 .before .before .agree4 .ensures,
+      ← c4 .agree5 .ensures,
+      ← c .agree6 .ensures,
     )
 
 pub agrees-spec : {M : Type 1} → statement M
-agrees-spec = tie.close (tie.spec (λ c κs. tt) (λ c κs. tt) (λ c κs. tt) (λ c κs. tt) (λ c κs. tt) (λ c κs. tt) (λ c κs. tt) (λ c κs. tt) returns)
+agrees-spec =
+    tie.close
+    (tie.spec
+    (λ c κs. tt) (λ c κs. tt) (λ c κs. tt) (λ c κs. tt) (λ c κs. tt) (λ c κs. tt) (λ c κs. tt) (λ c κs. tt) (λ c κs. tt) returns)

@@ -1,10 +1,10 @@
 -- A NaN has its one pattern; any other number its own.
 use mathlib.Core.Path.{sym, _∙_}
 use Rattle.ieee754.proofs.Signs.{no-nan}
-use Rattle.density_text.specs.Text.{canonicalBits}
+use Rattle.ieee754.specs.Ieee754.{canonicalBits}
 use borrow.Author.Needs.{needs}
-use Rattle.density_text.proofs.canonical_bits.Statement.{statement}
-use Rattle.density_text.proofs.canonical_bits.Tie as tie
+use Rattle.ieee754.proofs.canonical_bits.Statement.{statement}
+use Rattle.ieee754.proofs.canonical_bits.Tie as tie
 
 returns : tie.Need-returns
 unfolding canonicalBits
