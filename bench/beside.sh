@@ -1,9 +1,9 @@
 #!/usr/bin/env bash
 # usage: beside.sh STATE [RULES [SIZES [ROUNDS]]]
-# Fresh matrices and moves of whole screens, this state beside an earlier one: STATE is a commit, or a folder that has its
-# target/staticlib/libscreens.a already. Both archives are timed in turns, ROUNDS (5) times each, for the digits of RULES (135) and the
-# first SIZES (3) of 300, 1,000, 2,000 and 4,096 nodes. Prints medians of seconds of thread time, their ratio (this state over the
-# earlier) and the spread of the times that went into it.
+# This state beside an earlier one: STATE is a commit, or a folder that has its target/staticlib/libscreens.a already. Prints three
+# tables: the read-only memory of the archive, by object, in bytes; the quadrature points of 8,192 panels; fresh matrices and moves of
+# whole screens. Both archives are timed in turns, ROUNDS (5) times each, for the digits of RULES (135) and the first SIZES (3) of 300,
+# 1,000, 2,000 and 4,096 nodes; with 0 sizes there is no third table. A time is one of this thread, a ratio this state over the earlier.
 set -eu -o pipefail
 here=$(cd "$(dirname "$0")" && pwd)
 state=${1:?usage: beside.sh STATE [RULES [SIZES [ROUNDS]]]}
@@ -25,12 +25,49 @@ for one in before now; do
   [ $one = now ] || lib=$before/target/staticlib
   SCREENS_LIB=$lib cargo build -q --release --target-dir "$here/build/driver-$one"
 done
+# What is loaded and not written, an object a line: the state, the object, its constants and its code.
+read_only() {
+  size -A "$2/target/staticlib/libscreens.a" | awk -v state="$1" '
+    /^screens_/ { object = $1; order[++n] = object }
+    /^\.rodata/ { constants[object] += $2 }
+    /^\.text/ { code[object] += $2 }
+    END { for (k = 1; k <= n; k++) print state, order[k], constants[order[k]], code[order[k]] }'
+}
+{ read_only before "$before"; read_only now "$here/.."; } | awk '
+  { split($2 " all", name, " "); for (k in name) { constants[$1, name[k]] += $3; code[$1, name[k]] += $4 }
+    if (!seen[$2]++) order[++n] = $2 }
+  END {
+    print "| object | constants before | now | code before | now | together before | now | more |"
+    print "|---|--:|--:|--:|--:|--:|--:|--:|"
+    order[++n] = "all"
+    for (k = 1; k <= n; k++) {
+      a = constants["before", order[k]]; b = constants["now", order[k]]; c = code["before", order[k]]; d = code["now", order[k]]
+      printf "| %s | %d | %d | %d | %d | %d | %d | %+d |\n", order[k], a, b, c, d, a + c, b + d, b + d - a - c
+    }
+    print ""
+  }'
+run() { "$here/build/driver-$1/release/driver" "${@:2}" | sed "s/^/$1 /"; }
 times=$(mktemp)
 trap 'rm -f "$times"' EXIT
 for _ in $(seq "$rounds"); do
-  for one in before now; do
-    "$here/build/driver-$one/release/driver" ours "$rules" "$sizes" | sed "s/^/$one /" >> "$times"
-  done
+  for one in before now; do run $one points "$rules" >> "$times"; done
+done
+# each line: state, rule, milliseconds; a rule's figure is the least of its rounds
+awk '
+  { key = $1 " " $2; if (!(key in least) || $3 < least[key]) least[key] = $3; if (!seen[$2]++) order[++n] = $2 }
+  END {
+    print "| quadrature points of 8,192 panels, rule | before, ms | now, ms | now/before |"
+    print "|--:|--:|--:|--:|"
+    for (k = 1; k <= n; k++) {
+      a = least["before " order[k]]; b = least["now " order[k]]
+      printf "| %s | %.3f | %.3f | %.3f |\n", order[k], a, b, b / a
+    }
+  }' "$times"
+[ "$sizes" -gt 0 ] || exit 0
+echo
+: > "$times"
+for _ in $(seq "$rounds"); do
+  for one in before now; do run $one ours "$rules" "$sizes" >> "$times"; done
 done
 # each line: state, screen, nodes, rule, seconds of a matrix, seconds of a move
 awk '

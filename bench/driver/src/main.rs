@@ -187,8 +187,15 @@ fn main() {
             what.get(1).map_or(3, |s| s.parse().expect("sizes")),
         );
     }
+    if let [first, what @ ..] = &words[..]
+        && first == "points"
+    {
+        return screens::points(&digits(what.first()));
+    }
     let [portable, native, what @ ..] = &words[..] else {
-        panic!("usage: driver PORTABLE NATIVE [matrix | moves], or: driver ours [RULES [SIZES]]")
+        panic!(
+            "usage: driver PORTABLE NATIVE [matrix | moves], or: driver ours [RULES [SIZES]], or: driver points [RULES]"
+        )
     };
     let ((portable, portable_matrix), (native, native_matrix)) = (rust(portable), rust(native));
     match what.first().map(String::as_str) {

@@ -1,49 +1,38 @@
 //! Fresh matrices and moves of whole screens: ours beside the original, every cell on and above the diagonal compared in bits, and
-//! every cell below it with the one that it is a copy of.
+//! every cell below it with the one that it is a copy of. Quadrature points: ours alone, for two states of it.
 use crate::loops::{Columns, Matrix};
 use crate::now;
 use crate::rng::Rng;
 
-unsafe extern "C" {
-    fn screens_mesh_inductance_matrix(
-        rule: u32,
-        x: *const f64,
-        x_length: usize,
-        y: *const f64,
-        y_length: usize,
-        z: *const f64,
-        z_length: usize,
-        t0: *const usize,
-        t0_length: usize,
-        t1: *const usize,
-        t1_length: usize,
-        t2: *const usize,
-        t2_length: usize,
-        out: *mut f64,
-        out_length: usize,
-    ) -> u32;
-    fn screens_move_node(
-        rule: u32,
-        x: *mut f64,
-        x_length: usize,
-        y: *mut f64,
-        y_length: usize,
-        z: *mut f64,
-        z_length: usize,
-        t0: *const usize,
-        t0_length: usize,
-        t1: *const usize,
-        t1_length: usize,
-        t2: *const usize,
-        t2_length: usize,
-        matrix: *mut f64,
-        matrix_length: usize,
-        node: usize,
-        px: f64,
-        py: f64,
-        pz: f64,
-        count: *mut usize,
-    ) -> u32;
+/// Declares functions of the C interface over a mesh: the rule, six columns with their lengths, of which the coordinates may be
+/// written, and what else each takes.
+macro_rules! over_a_mesh {
+    ($($name:ident($coordinates:ty; $($more:ty),*))*) => {
+        unsafe extern "C" {
+            $(fn $name(
+                rule: u32,
+                x: $coordinates,
+                x_length: usize,
+                y: $coordinates,
+                y_length: usize,
+                z: $coordinates,
+                z_length: usize,
+                t0: *const usize,
+                t0_length: usize,
+                t1: *const usize,
+                t1_length: usize,
+                t2: *const usize,
+                t2_length: usize,
+                $(_: $more),*
+            ) -> u32;)*
+        }
+    };
+}
+
+over_a_mesh! {
+    screens_mesh_inductance_matrix(*const f64; *mut f64, usize)
+    screens_move_node(*mut f64; *mut f64, usize, usize, f64, f64, f64, *mut usize)
+    screens_mesh_quadrature_points(*const f64; *mut f64, usize, *mut f64, usize, *mut f64, usize, *mut f64, usize)
 }
 
 #[derive(Clone)]
@@ -134,6 +123,20 @@ impl Screen {
         };
         assert_eq!(number, 0);
         count
+    }
+
+    /// Our quadrature points and their weights.
+    fn points(&self, rule: u32, out: &mut [Vec<f64>; 4]) {
+        let (n, p, m) = (self.count(), self.panels[0].len(), out[0].len());
+        let [x, y, z] = self.nodes.each_ref().map(|c| c.as_ptr());
+        let [a, b, c] = self.panels.each_ref().map(|c| c.as_ptr());
+        let [px, py, pz, weights] = out.each_mut().map(|c| c.as_mut_ptr());
+        let number = unsafe {
+            screens_mesh_quadrature_points(
+                rule, x, n, y, n, z, n, a, p, b, p, c, p, px, m, py, m, pz, m, weights, m,
+            )
+        };
+        assert_eq!(number, 0);
     }
 
     /// How many cells a move of the node renews, counted one by one.
@@ -318,6 +321,25 @@ pub fn ours(rules: &[u32], sizes: usize) {
                 );
             }
         }
+    }
+}
+
+const MOST_PANELS: usize = 8192;
+const POINTS: [usize; 5] = [1, 3, 4, 6, 7];
+const CALLS: usize = 100;
+
+/// A line for each rule: the rule, and milliseconds of thread time of the quadrature points of 4,096 nodes and as many panels as there
+/// may be, some of them twice: the least of some calls.
+pub fn points(rules: &[u32]) {
+    let mut screen = Screen::new(64, 64, true);
+    for column in &mut screen.panels {
+        column.extend_from_within(..MOST_PANELS - column.len());
+    }
+    for &rule in rules {
+        let count = MOST_PANELS * POINTS[rule as usize - 1];
+        let mut out = [(); 4].map(|()| vec![f64::NAN; count]);
+        let times = (0..CALLS).map(|_| timed(|| screen.points(rule, &mut out)));
+        println!("{rule} {:.6}", times.fold(f64::INFINITY, f64::min) * 1e3);
     }
 }
 

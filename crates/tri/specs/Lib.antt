@@ -1,3 +1,4 @@
+pub mod Groups
 pub mod Mapping
 pub mod Quadrature
 pub mod Tri3

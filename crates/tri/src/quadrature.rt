@@ -2,40 +2,7 @@
 ghost use mathlib.Core.Path.{_≡_};
 ghost use Prim.Native.Nat.{_<_};
 ghost use Rattle.tri.specs.Quadrature as Spec;
-
-const TABLE_DUNAVANT_1: [[f64; 3]; 1] = [[1.0, 1.0 / 3.0, 1.0 / 3.0]];
-
-const TABLE_DUNAVANT_2: [[f64; 3]; 3] = [
-    [1.0 / 3.0, 1.0 / 6.0, 1.0 / 6.0],
-    [1.0 / 3.0, 2.0 / 3.0, 1.0 / 6.0],
-    [1.0 / 3.0, 1.0 / 6.0, 2.0 / 3.0],
-];
-
-const TABLE_DUNAVANT_3: [[f64; 3]; 4] = [
-    [-27.0 / 48.0, 1.0 / 3.0, 1.0 / 3.0],
-    [25.0 / 48.0, 0.2, 0.2],
-    [25.0 / 48.0, 0.6, 0.2],
-    [25.0 / 48.0, 0.2, 0.6],
-];
-
-const TABLE_DUNAVANT_4: [[f64; 3]; 6] = [
-    [0.223381589678011, 0.445948490915965, 0.445948490915965],
-    [0.223381589678011, 0.108103018168070, 0.445948490915965],
-    [0.223381589678011, 0.445948490915965, 0.108103018168070],
-    [0.109951743655322, 0.091576213509771, 0.091576213509771],
-    [0.109951743655322, 0.816847572980459, 0.091576213509771],
-    [0.109951743655322, 0.091576213509771, 0.816847572980459],
-];
-
-const TABLE_DUNAVANT_5: [[f64; 3]; 7] = [
-    [0.225000000000000, 0.333333333333333, 0.333333333333333],
-    [0.132394152788506, 0.470142064105115, 0.470142064105115],
-    [0.132394152788506, 0.059715871789770, 0.470142064105115],
-    [0.132394152788506, 0.470142064105115, 0.059715871789770],
-    [0.125939180544828, 0.101286507323456, 0.101286507323456],
-    [0.125939180544828, 0.797426985353087, 0.101286507323456],
-    [0.125939180544828, 0.101286507323456, 0.797426985353087],
-];
+ghost use Rattle.tri.specs.Groups as Groups;
 
 pub enum QuadratureKind {
     Dunavant1,
@@ -80,16 +47,49 @@ pub fn quadrature_count(kind: QuadratureKind) -> usize
     }
 }
 
+// A weight and two numbers, of which the three rows of a group are made: the second number belongs to the first corner, then to the
+// second, then to the third. A row that stands alone is the last of a group whose numbers are one. This is a match and not a constant,
+// which the compiler would lay out on the stack at each use.
+fn group(index: usize) -> [f64; 3]
+    requires { ⌜ index < Groups.groupCount ⌝ }
+    ensures { λ r. ⌜ r ≡ Groups.group index ⌝ }
+{
+    match index {
+        0 => [1.0, 1.0 / 3.0, 1.0 / 3.0],
+        1 => [1.0 / 3.0, 1.0 / 6.0, 2.0 / 3.0],
+        2 => [-27.0 / 48.0, 1.0 / 3.0, 1.0 / 3.0],
+        3 => [25.0 / 48.0, 0.2, 0.6],
+        4 => [0.223381589678011, 0.445948490915965, 0.108103018168070],
+        5 => [0.109951743655322, 0.091576213509771, 0.816847572980459],
+        6 => [0.225000000000000, 0.333333333333333, 0.333333333333333],
+        7 => [0.132394152788506, 0.470142064105115, 0.059715871789770],
+        _ => [0.125939180544828, 0.101286507323456, 0.797426985353087],
+    }
+}
+
+// The place of a rule's first row among the rows of all groups, three a group.
+fn first_place(kind: QuadratureKind) -> usize
+    ensures { λ r. ⌜ r ≡ Groups.firstPlace kind ⌝ }
+{
+    match kind {
+        QuadratureKind::Dunavant1 => 2,
+        QuadratureKind::Dunavant2 => 3,
+        QuadratureKind::Dunavant3 => 8,
+        QuadratureKind::Dunavant4 => 12,
+        QuadratureKind::Dunavant5 => 20,
+    }
+}
+
 // Row k of the rule's table.
 pub fn quadrature_row(kind: QuadratureKind, k: usize) -> [f64; 3]
     requires { ⌜ k < Spec.quadratureCount kind ⌝ }
     ensures { λ r. ⌜ r ≡ Spec.quadratureRow kind k ⌝ }
 {
-    match kind {
-        QuadratureKind::Dunavant1 => TABLE_DUNAVANT_1[k],
-        QuadratureKind::Dunavant2 => TABLE_DUNAVANT_2[k],
-        QuadratureKind::Dunavant3 => TABLE_DUNAVANT_3[k],
-        QuadratureKind::Dunavant4 => TABLE_DUNAVANT_4[k],
-        QuadratureKind::Dunavant5 => TABLE_DUNAVANT_5[k],
+    let place = first_place(kind) + k;
+    let g = group(place / 3);
+    match place % 3 {
+        0 => [g[0], g[1], g[1]],
+        1 => [g[0], g[2], g[1]],
+        _ => g,
     }
 }
