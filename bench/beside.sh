@@ -1,9 +1,10 @@
 #!/usr/bin/env bash
 # usage: beside.sh STATE [RULES [SIZES [ROUNDS]]]
-# This state beside an earlier one: STATE is a commit, or a folder that has its target/staticlib/libscreens.a already. Prints three
-# tables: the read-only memory of the archive, by object, in bytes; the quadrature points of 8,192 panels; fresh matrices and moves of
-# whole screens. Both archives are timed in turns, ROUNDS (5) times each, for the digits of RULES (135) and the first SIZES (3) of 300,
-# 1,000, 2,000 and 4,096 nodes; with 0 sizes there is no third table. A time is one of this thread, a ratio this state over the earlier.
+# This state beside an earlier one: STATE is a commit, or a folder that has its target/staticlib/libscreens.a already. Prints four
+# tables: the read-only memory of the archive, by object, in bytes; display values; the quadrature points of 8,192 panels; fresh matrices
+# and moves of whole screens. Both archives are timed in turns, ROUNDS (5) times each, for the digits of RULES (135) and the first SIZES
+# (3) of 300, 1,000, 2,000 and 4,096 nodes; with 0 sizes there is no fourth table. A time is one of this thread, a ratio this state over
+# the earlier.
 set -eu -o pipefail
 here=$(cd "$(dirname "$0")" && pwd)
 state=${1:?usage: beside.sh STATE [RULES [SIZES [ROUNDS]]]}
@@ -49,20 +50,26 @@ read_only() {
 run() { "$here/build/driver-$1/release/driver" "${@:2}" | sed "s/^/$1 /"; }
 times=$(mktemp)
 trap 'rm -f "$times"' EXIT
-for _ in $(seq "$rounds"); do
-  for one in before now; do run $one points "$rules" >> "$times"; done
-done
-# each line: state, rule, milliseconds; a rule's figure is the least of its rounds
-awk '
-  { key = $1 " " $2; if (!(key in least) || $3 < least[key]) least[key] = $3; if (!seen[$2]++) order[++n] = $2 }
-  END {
-    print "| quadrature points of 8,192 panels, rule | before, ms | now, ms | now/before |"
-    print "|--:|--:|--:|--:|"
-    for (k = 1; k <= n; k++) {
-      a = least["before " order[k]]; b = least["now " order[k]]
-      printf "| %s | %.3f | %.3f | %.3f |\n", order[k], a, b, b / a
-    }
-  }' "$times"
+# HEADING PLACES WORDS...: the driver's lines by WORDS, each a name and a time, in turns; a name's figure is the least of its rounds.
+least() {
+  : > "$times"
+  for _ in $(seq "$rounds"); do
+    for one in before now; do run $one "${@:3}" >> "$times"; done
+  done
+  awk -v heading="$1" -v places="$2" '
+    { key = $1 " " $2; if (!(key in least) || $3 < least[key]) least[key] = $3; if (!seen[$2]++) order[++n] = $2 }
+    END {
+      print heading
+      print "|--:|--:|--:|--:|"
+      for (k = 1; k <= n; k++) {
+        a = least["before " order[k]]; b = least["now " order[k]]
+        printf "| %s | %.*f | %.*f | %.3f |\n", order[k], places, a, places, b, b / a
+      }
+    }' "$times"
+}
+least "| display values of a million numbers | before, ns a call | now, ns | now/before |" 2 display
+echo
+least "| quadrature points of 8,192 panels, rule | before, ms | now, ms | now/before |" 3 points "$rules"
 [ "$sizes" -gt 0 ] || exit 0
 echo
 : > "$times"

@@ -69,7 +69,7 @@ def display(a):
     x = number(a)
     if not math.isfinite(x):
         return (16, 0)
-    k = (2 * abs(Fraction(x)) * 10**9 + 1) // 2
+    k = round(abs(Fraction(x)) * 10**9)  # Python's, to even at a half
     return (16, 0) if k > 10**15 else (0, (-k if x < 0 else k) % 2**64)
 
 

@@ -260,7 +260,7 @@ uint32_t screens_write_panel_file(const double *x, size_t nx, const double *y, s
     const size_t *t0, size_t nt0, const size_t *t1, size_t nt1, const size_t *t2, size_t nt2, uint8_t *file,
     size_t nfile);
 
-/* The display value of an inductance (henries): whole nanohenries, rounded once, halves away from zero. Refuses
+/* The display value of an inductance (henries): whole nanohenries, rounded once, a half to the even one. Refuses
    with 16. */
 uint32_t screens_display(double x, int64_t *value);
 

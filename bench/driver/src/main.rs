@@ -1,5 +1,6 @@
 //! Times our functions, the processor's own, and the original Rust built for any x86-64 and for this processor, side by side
 //! in one run. usage: driver PORTABLE NATIVE [matrix | moves], the two builds of `kernels`.
+mod display;
 #[path = "../../loops.rs"]
 mod loops;
 #[allow(dead_code)]
@@ -192,9 +193,15 @@ fn main() {
     {
         return screens::points(&digits(what.first()));
     }
+    if let [first] = &words[..]
+        && first == "display"
+    {
+        return display::times();
+    }
     let [portable, native, what @ ..] = &words[..] else {
         panic!(
-            "usage: driver PORTABLE NATIVE [matrix | moves], or: driver ours [RULES [SIZES]], or: driver points [RULES]"
+            "usage: driver PORTABLE NATIVE [matrix | moves], or: driver ours [RULES [SIZES]], or: driver points [RULES], \
+             or: driver display"
         )
     };
     let ((portable, portable_matrix), (native, native_matrix)) = (rust(portable), rust(native));

@@ -171,7 +171,7 @@ fn cells_differing(ours: &[f64], original: &[f64], n: usize) -> usize {
     (0..n * n).filter(|k| unequal(ours[*k], due(k / n, k % n))).count()
 }
 
-fn timed(run: impl FnOnce()) -> f64 {
+pub fn timed(run: impl FnOnce()) -> f64 {
     let start = now();
     run();
     now() - start

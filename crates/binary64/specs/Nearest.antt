@@ -1,4 +1,5 @@
--- Beside `specs/Operations`: what the theorems on `fma` and `sqrt` say (`proofs/Theorems`): rounded once, the nearest value, the nearest to a root. Definitions only.
+-- Beside `specs/Operations`: what the theorems on rounding say: a whole number, and on `fma` and `sqrt` (`proofs/Theorems`): rounded once, the nearest value, the
+-- nearest to a root. Definitions only.
 use mathlib.Core.Path.{_≡_}
 use mathlib.Core.Bool.{Bool, false, cond, _&&_}
 use Prim.Native.Nat.{ℕ, suc, _+_, _-_, _*_, _%_, _^_, _≤_, _<_}
@@ -13,6 +14,11 @@ Near v w u = (v * 2 ≤ w * 2 + u) × (w * 2 ≤ v * 2 + u)
 -- how far v is from w
 abbrev pub gap : ℕ → ℕ → ℕ
 gap v w = v - w + (w - v)
+
+-- n is the whole number nearest to num / den: it differs from it by a half at most, and where it differs by a half it is even
+pub record NearestWhole (num den n : ℕ) : Type 0 where
+  pub near : Near (n * den) num den
+  pub even : gap (n * den) num * 2 ≡ den → n % 2 ≡ 0
 
 -- ---- a sum
 

@@ -2,7 +2,7 @@
 use mathlib.Core.Path.{_≡_, refl, sym, ap, _∙_, subst}
 use mathlib.Core.Bool.{Bool, true, false, cond, true≢false}
 use Prim.Native.Nat.{ℕ, zero, suc, _+_, _-_, _*_, _/_, _%_, _^_, _≤_, _<_}
-use native.Mathlib.Nat.{le-trans, le-of-eq, lt-of-lt-of-le, lt-of-le-of-lt, le-div-iff-mul-le, mul-le-mul, mul-le-mul-left, mul-lt-mul-of-pos-right, mul-right-comm, div-eq-of-lt, mod-eq-of-lt, not-suc-le-zero}
+use native.Mathlib.Nat.{le-trans, le-of-eq, lt-of-lt-of-le, lt-of-le-of-lt, le-div-iff-mul-le, mul-le-mul, mul-le-mul-left, mul-lt-mul-of-pos-right, mul-right-comm, not-suc-le-zero}
 use native.Mathlib.Omega.{arith}
 use borrow.Author.Tests.{lt-ltb, le-ltb, leb-false}
 use lib.Dec.{T, leb, ltb, eqb}
@@ -16,13 +16,14 @@ use lib.Ieee.{Float, nan, inf, fin, binary64, up, down, odd, isNan, fits, ofFiel
 use lib.Ieee.Bits.{ofBits-toBits}
 use lib.Ieee.Fits.{down-pos}
 use lib.Ieee.Exact.{HasValue, odd-sign}
+use lib.Ieee.Nearest.{closest, closest-same}
+use Rattle.binary64.proofs.Whole.{closest-ge, closest-none}
 use Rattle.binary64.specs.Pattern.{significandAt, significandOf, exponentOf}
 use Rattle.binary64.proofs.Pattern.{opened, bits-value}
 use Rattle.ieee754.specs.Ieee754.{abs, signBit}
 use Rattle.ieee754.proofs.Signs.{sign-bit}
 use Rattle.refusal.specs.Checks.{first}
-use Rattle.display.specs.Display.{roundHalfAway, nano, largest, nanohenries, outOfRange, displayRefusal, withSign, shown, Displayed}
-use Rattle.display.proofs.Rounding.{same-fraction}
+use Rattle.display.specs.Display.{nano, largest, nanohenries, outOfRange, displayRefusal, withSign, shown, Displayed}
 
 -- x is finite and its size is n whole nanohenries
 pub record SizeIs (x : Float) (n : ℕ) : Type 0 where
@@ -34,8 +35,8 @@ unfolding abs outOfRange shown signBit nanohenries
 sized nan v h = absurd h
 sized (inf s) v h = absurd h
 sized (fin s m e) v h =
-    let q : roundHalfAway (m * up e * nano) (down e) ≡ roundHalfAway (v * nano) (2 ^ 1074) =
-    same-fraction (m * up e * nano) (down e) (v * nano) (2 ^ 1074) (down-pos e) (pow-pos 1074)
+    let q : closest (m * up e * nano) (down e) ≡ closest (v * nano) (2 ^ 1074) =
+    closest-same (m * up e * nano) (down e) (v * nano) (2 ^ 1074) (down-pos e) (pow-pos 1074)
     (mul-right-comm (m * up e) nano (2 ^ 1074) ∙ ap (λ (x : ℕ). x * nano) (h .1) ∙ mul-right-comm v (down e) nano) in
     record { range = ap (ltb largest) q; value = ap (withSign s) q }
 
@@ -43,14 +44,6 @@ pub from-pattern : (x : Float) (b : ℕ) → ofBits binary64 b ≡ abs x → exp
 from-pattern x b e h = sized x (significandOf b * 2 ^ exponentOf b) (subst (λ (y : Float). HasValue y false (significandOf b * 2 ^ exponentOf b) (2 ^ 1074)) e (bits-value b (omega arith)))
 
 -- ---- large
-at-least : (n d : ℕ) → n / d ≤ roundHalfAway n d
-unfolding roundHalfAway
-at-least n d = go (ltb (n % d * 2) d)
-  where
-    go : (t : Bool) → n / d ≤ cond t (n / d) (suc (n / d))
-    go true = omega arith
-    go false = omega arith
-
 exceeds : (t p : ℕ) → 2 ^ 52 ≤ t → 1042 ≤ p → ltb largest (nanohenries (t * 2 ^ p) (2 ^ 1074)) ≡ true
 unfolding nanohenries
 exceeds t p ht hp =
@@ -58,7 +51,7 @@ exceeds t p ht hp =
     let place : 2 ^ 1042 ≤ 2 ^ p = pow-mono hp in
     let both : suc largest * 2 ^ 1074 ≤ t * 2 ^ p * nano = le-trans (mul-le-mul digits place) (le-of-eq (mul-right-comm t nano (2 ^ p))) in
     let quotient : suc largest ≤ t * 2 ^ p * nano / 2 ^ 1074 = le-div-iff-mul-le (pow-pos 1074) .1 both in
-    lt-ltb largest _ (le-trans quotient (at-least (t * 2 ^ p * nano) (2 ^ 1074)))
+    lt-ltb largest _ (le-trans quotient (closest-ge (t * 2 ^ p * nano) (2 ^ 1074)))
 
 fields-exceed : (x t : ℕ) → 1042 < x → t < 2 ^ 52 → outOfRange (ofFields binary64 false x t) ≡ true
 unfolding ofFields
@@ -92,12 +85,6 @@ digits-bound : (x t : ℕ) → t < 2 ^ 52 → significandAt x t < 2 ^ 53
 digits-bound zero t h = omega arith
 digits-bound (suc x) t h = omega arith
 
-vanishes : (n d : ℕ) → 0 < d → n * 2 < d → roundHalfAway n d ≡ 0
-unfolding roundHalfAway
-vanishes n d p h =
-    let l : n < d = omega arith in
-    (λ i. cond (ltb (mod-eq-of-lt l i * 2) d) (div-eq-of-lt l i) (suc (div-eq-of-lt l i))) ∙ rw (lt-ltb (n * 2) d h)
-
 pub too-small : (b : ℕ) → exponentOf b < 980 → nanohenries (significandOf b * 2 ^ exponentOf b) (2 ^ 1074) ≡ 0
 unfolding nanohenries
 too-small b h =
@@ -109,7 +96,7 @@ too-small b h =
     let below : t * nano * 2 * 2 ^ p < 2 ^ 84 * 2 ^ p = mul-lt-mul-of-pos-right digits (pow-pos p) in
     let le : p ≤ 990 = omega arith in
     let top : 2 ^ 84 * 2 ^ p ≤ 2 ^ 1074 = mul-le-mul-left (2 ^ 84) (pow-mono le) in
-    vanishes (t * 2 ^ p * nano) (2 ^ 1074) (pow-pos 1074) (lt-of-le-of-lt (le-of-eq regroup) (lt-of-lt-of-le below top))
+    closest-none (t * 2 ^ p * nano) (2 ^ 1074) (lt-of-le-of-lt (le-of-eq regroup) (lt-of-lt-of-le below top))
 
 -- ---- from a float to its size's pattern
 abs-fits : (x : Float) → T (fits binary64 x) → T (fits binary64 (abs x))

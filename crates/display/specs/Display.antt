@@ -1,18 +1,15 @@
--- Document 01's display value: whole nanohenries, the exact value × 10^9 rounded to nearest, over whole numbers. Definitions only.
+-- Document 01's display value, rounded as CR 4 says: whole nanohenries, the exact value × 10^9 to the nearest, a half to the even one. Definitions only.
 use mathlib.Core.Path.{_≡_}
 use mathlib.Core.Logic.{_↔_}
 use mathlib.Core.Bool.{Bool, true, cond}
 use mathlib.Core.List.{[], _∷_}
-use Prim.Native.Nat.{ℕ, suc, _+_, _*_, _/_, _%_, _^_, _≤_}
+use Prim.Native.Nat.{ℕ, _*_, _≤_}
 use lib.Dec.{ltb, eqb}
 use lib.IntN.{ℤ, pos, negℤ}
 use lib.Ieee.{Float, nan, inf, fin, up, down}
+use lib.Ieee.Nearest.{closest}
 use Rattle.refusal.specs.Numbers.{displayRange}
 use Rattle.refusal.specs.Checks.{check, first}
-
--- num / den to the nearest whole number, halves away from zero
-unfoldable pub roundHalfAway : ℕ → ℕ → ℕ
-roundHalfAway num den = cond (ltb (num % den * 2) den) (num / den) (suc (num / den))
 
 -- nanohenries in a henry
 abbrev pub nano : ℕ
@@ -22,9 +19,9 @@ nano = 1_000_000_000
 abbrev pub largest : ℕ
 largest = 1_000_000_000_000_000
 
--- the size of num / den henries in whole nanohenries
+-- the size of num / den henries in whole nanohenries: `closest` is the nearest whole number, at a half the even one
 unfoldable pub nanohenries : ℕ → ℕ → ℕ
-nanohenries num den = roundHalfAway (num * nano) den
+nanohenries num den = closest (num * nano) den
 
 -- 16: not finite, or the rounded size above the largest
 unfoldable pub outOfRange : Float → Bool
@@ -39,7 +36,7 @@ displayRefusal x = first (check displayRange (outOfRange x) ∷ [])
 unfoldable pub withSign : Bool → ℕ → ℤ
 withSign s n = cond s (negℤ (pos n)) (pos n)
 
--- Document 01's "display value" of a finite number
+-- the display value of a finite number
 unfoldable pub shown : Float → ℤ
 shown nan = pos 0
 shown (inf s) = pos 0
@@ -60,8 +57,3 @@ InRange (fin s m e) = nanohenries (m * up e) (down e) ≤ largest
 pub record DisplayNumbered (x : Float) (r : ℕ) : Type 0 where
   pub is-16 : (r ≡ displayRange) ↔ (InRange x → ⊥)
   pub is-0 : (r ≡ 0) ↔ InRange x
-
--- ---- the product with 10^9, which has more digits than a word
--- num in units of 2^31, the last digit odd where something below 2^32 is left
-unfoldable pub inUnits : ℕ → ℕ
-inUnits num = num / 2 ^ 32 * 2 + cond (eqb (num % 2 ^ 32) 0) 0 1

@@ -1,6 +1,8 @@
-// Document 01's display value: whole nanohenries, rounded once from the exact value.
+// Document 01's display value: whole nanohenries, rounded once from the exact value, by CR 4 a half
+// to the even one.
 ghost use mathlib.Core.Path.{_≡_};
 ghost use Prim.Native.Nat.{_*_, _^_, _≤_, _<_};
+ghost use Rattle.fused_integer.specs.Jam.{Jam};
 ghost use Rattle.display.specs.Display as Spec;
 ghost use Rattle.display.specs.Display.{nano, largest, Displayed};
 
@@ -8,23 +10,16 @@ const NANO: u64 = 1_000_000_000;
 
 const LARGEST: u64 = 1_000_000_000_000_000;
 
-// num / den to the nearest whole number.
-fn round_half_away(num: u64, den: u64) -> u64
-    requires { ⌜ (0 < den) × (den ≤ 2 ^ 63) × (num < 2 ^ 63) ⌝ }
-    ensures { λ r. ⌜ r ≡ Spec.roundHalfAway num den ⌝ }
-{
-    if num % den * 2 < den {
-        num / den
-    } else {
-        num / den + 1
-    }
-}
+// The bits of 2^20 H, above the largest, and of 2^-42 H, under half a nanohenry.
+const TOO_LARGE: u64 = 0x4130_0000_0000_0000;
 
-// t × 10^9 has up to 83 digits: its upper word, doubled, and a last digit that says whether
-// anything is left below.
+const TOO_SMALL: u64 = 0x3d50_0000_0000_0000;
+
+// t × 10^9 has up to 83 digits: in units of 2^31, the last digit odd where anything is left below,
+// so that a half stays apart from what is next to it.
 fn in_units(t: u64) -> u64
     requires { ⌜ t < 2 ^ 53 ⌝ }
-    ensures { λ r. ⌜ r ≡ Spec.inUnits (t * nano) ⌝ }
+    ensures { λ r. ⌜ Jam (t * nano) (2 ^ 31) r ⌝ }
     ensures { λ r. ⌜ r < 2 ^ 63 ⌝ }
 {
     let low = t % 0x1_0000_0000 * NANO;
@@ -36,13 +31,20 @@ fn in_units(t: u64) -> u64
     }
 }
 
-// The size of t × 2^p / 2^1074 henries. From exponent 1042 on it is above the largest, below 980
-// under half a nanohenry.
+// The size of t × 2^p / 2^1074 henries: one more than the quotient if its remainder is above a half,
+// or a half and the quotient odd.
 fn nanohenries(t: u64, p: u64) -> u64
     requires { ⌜ (t < 2 ^ 53) × (980 ≤ p) × (p ≤ 1041) ⌝ }
     ensures { λ r. ⌜ r ≡ Spec.nanohenries (t * 2 ^ p) (2 ^ 1074) ⌝ }
 {
-    round_half_away(in_units(t), 1u64 << (1043 - p))
+    let num = in_units(t);
+    let den = 1u64 << (1043 - p);
+    let q = num / den;
+    if den < num % den * 2 + q % 2 {
+        q + 1
+    } else {
+        q
+    }
 }
 
 // A size with its sign.
@@ -73,20 +75,19 @@ pub fn display(x: f64) -> Shown
         };
     }
     let b = f64::to_bits(ieee754::abs(x));
-    let p = binary64::exponent(b);
-    if p > 1041 {
+    if b >= TOO_LARGE {
         return Shown {
             refusal: refusal::DISPLAY_RANGE,
             value: 0,
         };
     }
-    if p < 980 {
+    if b < TOO_SMALL {
         return Shown {
             refusal: 0,
             value: 0,
         };
     }
-    let size = nanohenries(binary64::significand(b), p);
+    let size = nanohenries(binary64::significand(b), binary64::exponent(b));
     if LARGEST < size {
         return Shown {
             refusal: refusal::DISPLAY_RANGE,

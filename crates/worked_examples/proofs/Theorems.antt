@@ -17,12 +17,12 @@ use Rattle.coupling.specs.Coupling.{isFar, geometricCoupling}
 use Rattle.lists.specs.Sums.{runningSum}
 use Rattle.linkage.specs.Energy.{rowsAdded, energyRefusal}
 use Rattle.linkage.specs.Flux.{lacksSources, brokenRows, rowsDiffer, mapRefusal}
-use Rattle.display.specs.Display.{roundHalfAway, nanohenries, outOfRange, displayRefusal, withSign, shown}
+use Rattle.display.specs.Display.{nanohenries, outOfRange, displayRefusal, withSign, shown}
 use Rattle.worked_examples.specs.BenchSheet.{BenchSheet}
 
 -- the starred facts, together
 pub bench-sheet : BenchSheet
-unfolding fma sqrt squareRoot min max clamp norm3 dot3 cross3 sub3 addScaled3 area rawNormal closestPoint exitsFromSecond exitsFromFourth exitsFromSixth first after someBelow anyOf countBelow tabulateFrom meshRefusal meshChecks lengthsDiffer passesLimits missesNode isZeroArea edgeSq quality isPoor poorPanels testedCount pointsMatch matchesCorner trianglesIdentical distanceSquared pointTriangleDistanceSquared lineParameter offsetSquared keptOffsetSquared segmentDistanceSquared leastOfCorners leastOfEdges triangleDistanceSquared lowest highest gap triangleAabbDistanceSquared triangleMaxEdgeSquared firstLongest longestEdge midpoint halves longestEdgeBisection isFar geometricCoupling rowsAdded energyRefusal runningSum lacksSources brokenRows rowsDiffer mapRefusal roundHalfAway nanohenries outOfRange displayRefusal withSign shown neg ofBits toBits add sub mul div lt le isNan
+unfolding fma sqrt squareRoot min max clamp norm3 dot3 cross3 sub3 addScaled3 area rawNormal closestPoint exitsFromSecond exitsFromFourth exitsFromSixth first after someBelow anyOf countBelow tabulateFrom meshRefusal meshChecks lengthsDiffer passesLimits missesNode isZeroArea edgeSq quality isPoor poorPanels testedCount pointsMatch matchesCorner trianglesIdentical distanceSquared pointTriangleDistanceSquared lineParameter offsetSquared keptOffsetSquared segmentDistanceSquared leastOfCorners leastOfEdges triangleDistanceSquared lowest highest gap triangleAabbDistanceSquared triangleMaxEdgeSquared firstLongest longestEdge midpoint halves longestEdgeBisection isFar geometricCoupling rowsAdded energyRefusal runningSum lacksSources brokenRows rowsDiffer mapRefusal nanohenries outOfRange displayRefusal withSign shown neg ofBits toBits add sub mul div lt le isNan
 bench-sheet =
     record {
       fused = refl;

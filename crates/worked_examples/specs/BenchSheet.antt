@@ -117,4 +117,4 @@ pub record BenchSheet : Type 0 where
   pub matrix-accepted : energyRefusal (length nodalValues) (length identity) ≡ 0
   pub energy-12-and-a-half : inductiveEnergy identity nodalValues ≡ bits 0x4029_0000_0000_0000
   pub display-accepted : displayRefusal inductance ≡ 0
-  pub displayed : shown inductance ≡ pos 976563
+  pub displayed : shown inductance ≡ pos 976562

@@ -45,6 +45,20 @@ fn other_versions_of_numpy_files_are_read() {
 }
 
 #[test]
+fn a_row_shows_halves_as_the_even_number() {
+    let folder = Folder::new("halves");
+    let cells = [1.0, 3.0, 5.0, -1.0, -3.0, -5.0, 7.0, -7.0, -0.0].map(|k| k / 1024.0);
+    folder.put("halves.npy", &npy("(3, 3)", &cells));
+    for (node, due) in [
+        (0, "0 976562\n1 2929688\n2 4882812\n"),
+        (1, "0 -976562\n1 -2929688\n2 -4882812\n"),
+        (2, "0 6835938\n1 -6835938\n2 0\n"),
+    ] {
+        assert_eq!(done(&folder, &format!("row halves.npy {node}")), due);
+    }
+}
+
+#[test]
 fn a_run_of_moves_ends_in_the_fresh_matrix() {
     let folder = Folder::new("moves");
     done(&folder, "matrix hole.pnl --rule 2 -o hole.npy");

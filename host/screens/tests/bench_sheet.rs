@@ -58,7 +58,7 @@ fn maps_energies_display() {
         triangle_mesh_inductive_energy(&[1.0, 0.0, 0.0, 1.0], &[3.0, 4.0]),
         Ok(12.5)
     );
-    assert_eq!(display(1.0 / 1024.0), Ok(976_563));
+    assert_eq!(display(1.0 / 1024.0), Ok(976_562));
 }
 
 #[test]

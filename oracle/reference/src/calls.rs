@@ -363,7 +363,7 @@ pub fn encode(mesh: &Mesh, values: Option<&[f64]>) -> Option<Vec<u8>> {
     Some(bytes)
 }
 
-/// The display value by whole numbers: the exact value times 10^9, halves away from zero; 16 if not finite or above 10^15.
+/// The display value by whole numbers: the exact value times 10^9, halves to even; 16 if not finite or above 10^15.
 pub fn display(x: f64) -> Result<i64, u32> {
     if !x.is_finite() {
         return Err(16);
@@ -381,7 +381,10 @@ pub fn display(x: f64) -> Result<i64, u32> {
     } else if exponent >= 0 {
         return Err(16); // at least 2^52 * 10^9
     } else {
-        (product + (1u128 << (-exponent - 1))) >> -exponent
+        let half = 1u128 << (-exponent - 1);
+        let (below, rest) = (product >> -exponent, product & (2 * half - 1));
+        // one more above a half, and at a half if that makes it even
+        below + u128::from(rest > half || rest == half && below % 2 == 1)
     };
     if size > 1_000_000_000_000_000 {
         return Err(16);

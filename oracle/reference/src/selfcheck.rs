@@ -109,8 +109,12 @@ fn bench_sheet(sheet: &mut Sheet) {
         sheet.line(&format!("display of {what}"), due, format!("{:?}", calls::display(x)));
     };
     let past = |k: u64| f64::from_bits(1e6f64.to_bits() + k);
-    display("1/1024", 1.0 / 1024.0, "Ok(976563)");
-    display("-1/1024", -1.0 / 1024.0, "Ok(-976563)");
+    display("1/1024", 1.0 / 1024.0, "Ok(976562)");
+    display("-1/1024", -1.0 / 1024.0, "Ok(-976562)");
+    display("3/1024", 3.0 / 1024.0, "Ok(2929688)");
+    display("-3/1024", -3.0 / 1024.0, "Ok(-2929688)");
+    display("5/1024", 5.0 / 1024.0, "Ok(4882812)");
+    display("7/1024", 7.0 / 1024.0, "Ok(6835938)");
     display("-0", -0.0, "Ok(0)");
     display("1e6", 1e6, "Ok(1000000000000000)");
     display("1e6 and one place (1e15 + 0.12)", past(1), "Ok(1000000000000000)");

@@ -9,7 +9,7 @@ use lib.Ieee.{Format, prec, low, size, units, round}
 use lib.Ieee.Fits.{round-is}
 use lib.Ieee.Nearest.{closest}
 use Rattle.binary64.specs.Nearest.{Near}
-use Rattle.binary64.proofs.Nearest.{closest-is, closest-near}
+use Rattle.binary64.proofs.Whole.{closest-is, closest-near}
 
 -- the whole part
 module _ (q c L a : ℕ) (C : 0 < c) (lo : 2 * (q * c) < 4 * (a * L)) (hi : 4 * (a * L) < 2 * (q * c) + 2 * c) where

@@ -14,7 +14,7 @@ use Rattle.binary64.proofs.Pattern.{less-one}
 use Rattle.binary64.proofs.Size.{size-is}
 use Rattle.binary64.specs.Operations.{root, rootOf}
 use Rattle.binary64.proofs.Root.Floor.{Floor, root-floor, four-pow}
-use Rattle.binary64.proofs.Nearest.{closest-is}
+use Rattle.binary64.proofs.Whole.{closest-is}
 
 -- ---- squares
 pub square-lt : (x y : ℕ) → x * x < y * y → x < y

@@ -22,18 +22,21 @@ held c = subst T (sym (c .good .0 .1)) tt
 is-number : (c : tie.Else1) → isNan (c .before .before .args .x) ≡ false
 is-number c = sym (c .before .is-nan .ensures) ∙ c .if1 .left
 
-known : (c : tie.After-exponent) → Pattern (c .before .before .before .before .args .x) (toBits binary64 (c .before .abs .result))
-known c = pattern _ _ (c .before .abs .ensures) (held (c .before .before .before .before)) (is-number (c .before .before))
+known : (c : tie.After-abs) → Pattern (c .before .before .before .args .x) (toBits binary64 (c .abs .result))
+known c = pattern _ _ (c .abs .ensures) (held (c .before .before .before)) (is-number (c .before))
 
 -- the size that the pattern's significand and exponent give
-sized : (c : tie.Else2) → let c4 = c .before .before .before .before in SizeIs (c4 .before .args .x) (Spec.nanohenries (significandOf (toBits binary64 (c .before .before .abs .result)) * 2 ^ exponentOf (toBits binary64 (c .before .before .abs .result))) (2 ^ 1074))
+abbrev size-of : ℕ → ℕ
+size-of b = Spec.nanohenries (significandOf b * 2 ^ exponentOf b) (2 ^ 1074)
+
+sized : (c : tie.Else2) → SizeIs (c .before .before .before .before .args .x) (size-of (toBits binary64 (c .before .abs .result)))
 sized c = from-pattern _ _ (known (c .before) .stands) (omega arith)
 
-computed : (c : tie.After-nanohenries) → let c4 = c .before .before .before .before in let c8 = c4 .before .before .before .before in SizeIs (c8 .args .x) (c .nanohenries .result)
+computed : (c : tie.After-nanohenries) → let c4 = c .before .before .before .before in SizeIs (c4 .before .before .before .before .args .x) (c .nanohenries .result)
 computed c =
-    let p = c .before .before .before .before in
-    let e = c .nanohenries .ensures ∙ (λ i. Spec.nanohenries (c .before .significand .ensures .0 i * 2 ^ p .exponent .ensures i) (2 ^ 1074)) in
-    subst (λ (n : ℕ). SizeIs (p .before .before .before .before .args .x) n) (sym e) (sized (c .before .before .before))
+    let c4 = c .before .before .before .before in
+    let e = c .nanohenries .ensures ∙ (λ i. Spec.nanohenries (c .before .before .significand .ensures .0 i * 2 ^ c .before .exponent .ensures i) (2 ^ 1074)) in
+    subst (λ (n : ℕ). SizeIs (c4 .before .before .before .before .args .x) n) (sym e) (sized c4)
 
 returns : tie.Need-returns
 returns c = refused (c .before .before .args .x) (not-a-number (c .before .before .args .x) (sym (c .before .is-nan .ensures) ∙ c .if1 .taken))
@@ -48,10 +51,9 @@ returns-2 c =
 
 returns-3 : tie.Need-returns-3
 returns-3 c =
+    let b = toBits binary64 (c .before .before .abs .result) in
     let c4 = c .before .before .before .before in
-    let b = toBits binary64 (c .before .before .before .abs .result) in
-    let s = sized (c .before) in
-    accepted _ 0 _ (subst (λ (n : ℕ). SizeIs (c4 .before .before .args .x) n) (too-small b (omega arith)) s) (omega arith) (no-sign _)
+    accepted _ 0 _ (subst (λ (n : ℕ). SizeIs (c4 .before .args .x) n) (too-small b (omega arith)) (sized (c .before))) (omega arith) (no-sign _)
 
 returns-4 : tie.Need-returns-4
 returns-4 c = refused _ (computed (c .before) .range ∙ lt-ltb _ _ (c .if4 .taken))
@@ -65,5 +67,5 @@ returns-5 c =
 pub display-spec : {M : Type 1} → statement M
 display-spec =
     tie.close
-    (tie.spec (search needs) returns (search needs) float-to-bits-b (search needs) returns-2 returns-3
-    (search needs) (search needs) returns-4 (search needs) (search needs) returns-5)
+    (tie.spec (search needs) returns (search needs) float-to-bits-b returns-2 returns-3
+    (search needs) (search needs) (search needs) returns-4 (search needs) (search needs) returns-5)

@@ -20,7 +20,7 @@ use Rattle.fused_integer.proofs.Laws.Cases.{sum-no-nan, sum-read}
 use Rattle.fused_integer.proofs.Laws.Jam.{jam-exact}
 use Rattle.fused_integer.proofs.Laws.Round.{round-jam}
 use Rattle.binary64.proofs.Pack.{units-bits}
-use Rattle.fused_integer.proofs.Laws.Final.{closest-le, closest-ge}
+use Rattle.binary64.proofs.Whole.{closest-le, closest-ge}
 use Rattle.binary64.proofs.Sums.{sum-alike, sum-more, sum-less}
 use Rattle.fused_guided.proofs.Laws.Tests.{Factors, Reach, leads-no, leads-yes, leads-low, leads-high}
 use Rattle.fused_guided.proofs.Laws.Terms.{place-some, place-few, place-units, unwrapped-k, field-lt, plain, significand-of, product-units, product-lt, units-shift}

@@ -12,7 +12,7 @@ pub(super) const COMMAND: Command = Command {
 usage: screens row MATRIX.npy NODE
 
 Shows the row of a node: a line a cell, the other node and the inductance in whole nanohenries, rounded once from the exact
-value, halves away from zero. A cell that is not finite or above a million henries has no display value (number 16).
+value, a half to the even one. A cell that is not finite or above a million henries has no display value (number 16).
 
   screens row plate.npy 144 | sort -k2 -n | tail -n 3
 ",

@@ -298,7 +298,13 @@ static void files(void) {
     CHECK(screens_read_panel_file(file, 8, a, 3, b, 3, c, 3, i, 1, j, 1, k, 1) == 14);
     CHECK(screens_read_panel_file(file, 86, a, 3, b, 3, c, 3, i, 1, j, 1, k, 1) == 15);
     CHECK(screens_read_panel_file(file, 87, a, 2, b, 3, c, 3, i, 1, j, 1, k, 1) == 6 && filled(a, 3));
-    CHECK(screens_display(1.0 / 1024, &value) == 0 && value == 976563);
+    CHECK(screens_display(1.0 / 1024, &value) == 0 && value == 976562);
+    CHECK(screens_display(-1.0 / 1024, &value) == 0 && value == -976562);
+    CHECK(screens_display(3.0 / 1024, &value) == 0 && value == 2929688);
+    CHECK(screens_display(-3.0 / 1024, &value) == 0 && value == -2929688);
+    CHECK(screens_display(5.0 / 1024, &value) == 0 && value == 4882812);
+    CHECK(screens_display(7.0 / 1024, &value) == 0 && value == 6835938);
+    CHECK(screens_display(nextafter(1.0 / 1024, 1), &value) == 0 && value == 976563);
     CHECK(screens_display(-1.6e-9, &value) == 0 && value == -2);
     CHECK(screens_display(NAN, &value) == 16 && value == 0);
 }

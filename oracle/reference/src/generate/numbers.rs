@@ -284,9 +284,9 @@ pub fn clamp(r: &mut Rng) -> [f64; 3] {
     [x, low, high]
 }
 
-/// Halves of a nanohenry, the limit 10^15, small fractions.
+/// Halves of a nanohenry and the numbers beside them, the limit 10^15, small fractions.
 pub fn display(r: &mut Rng) -> f64 {
-    let size = match r.below(8) {
+    let size = match r.below(9) {
         0 => any_number(r),
         1 => r.range(-2000000, 2000000) as f64 / 1024.0,
         2 => {
@@ -297,6 +297,7 @@ pub fn display(r: &mut Rng) -> f64 {
         4 => r.signed() * 1e6,
         5 => r.signed() * 1e-6,
         6 => ulps((r.range(0, 1 << 40) as f64 + 0.5) * 1e-9, r.range(-1, 1)),
+        7 => ulps((2 * r.range(0, 1 << 29) + 1) as f64 / 1024.0, r.range(-1, 1)),
         _ => r.range(0, 4000) as f64 * power_of_two(-r.range(10, 12)),
     };
     either_sign(r, size)

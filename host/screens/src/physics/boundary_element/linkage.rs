@@ -77,10 +77,11 @@ fn row(numbers: &[f64], call: impl FnOnce(&mut usize, &mut usize) -> u32) -> Res
     Ok(&numbers[offset..offset + length])
 }
 
-/// The display value of an inductance (H): whole nanohenries, rounded once, halves away from zero. Refused with 16.
+/// The display value of an inductance (H): whole nanohenries, rounded once, a half to the even one. Refused with 16.
 ///
 /// ```
-/// assert_eq!(screens::display(1.0 / 1024.0), Ok(976_563));
+/// assert_eq!(screens::display(1.0 / 1024.0), Ok(976_562));
+/// assert_eq!(screens::display(3.0 / 1024.0), Ok(2_929_688));
 /// ```
 pub fn display(henries: f64) -> Result<i64, Refusal> {
     valued(|value| ffi::display(henries, value))
