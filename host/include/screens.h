@@ -13,7 +13,7 @@
  *    3 missing node     an index is not below the node count
  *    4 zero area        a panel's area is below 1e-14
  *    5 nodal values     nodal lengths differ from the node count or each other
- *    6 output           an output length is not the one due (a moved matrix too)
+ *    6 output           an output length is not the one due (a store and a moved matrix too)
  *    7 matrix           a given matrix's length is not n * n
  *    8 coefficients     no sources, but map, output or nodal values are not empty
  *    9 map              the map's length is not a multiple of the source count
@@ -24,11 +24,13 @@
  *   14 mark             a file under 9 bytes, or its mark or version is wrong
  *   15 file length      the length is not the one the counts give
  *   16 display          not finite, or rounded size above 10^15 nanohenries
+ *   17 unknown name     no held place of the store has the name
+ *   18 no place         the name is new, and all eight places are held
  * The numbers that a function can return stand at it in the order in which they are looked for. On a refusal every lent
  * single number (value, count, offset, length) is set to 0, and every lent array and slice is as it was.
  *
- * Arrays. A vector is three numbers, x, y, z; a triangle nine, corner after corner; what is handed back of a panel or a pair
- * has the count that stands in the brackets. Such an array is one pointer, good for that many elements.
+ * Arrays. A vector is three numbers, x, y, z; a triangle nine, corner after corner; a shape's name eight bytes; what is handed
+ * back of a panel or a pair has the count that stands in the brackets. Such an array is one pointer, good for that many elements.
  *
  * Slices. What has no fixed size is a slice: a pointer and its length in elements, in that order. The pointer must be good for
  * that many elements; for an empty slice any pointer will do that is not null and aligned, as the address of any variable of
@@ -219,6 +221,36 @@ uint32_t screens_mesh_inductance_matrix(uint32_t rule, const double *x, size_t n
 uint32_t screens_move_node(uint32_t rule, double *x, size_t nx, double *y, size_t ny, double *z, size_t nz,
     const size_t *t0, size_t nt0, const size_t *t1, size_t nt1, const size_t *t2, size_t nt2, double *matrix,
     size_t n, size_t node, double px, double py, double pz, size_t *count);
+
+/* ---- named shapes ------------------------------------------------------------------------------------------------ */
+
+/* A store of eight shapes of one mesh of n nodes is five slices: marks, 8 bytes, 0 for a free place and anything else
+   for a held one; names, 64 bytes, eight a place; sx, sy, sz, 8 * n numbers each (metres), n a place. A name is eight
+   bytes, any. That of a free place is not looked at; where two held places have one name, the first counts. */
+
+/* Saves the mesh's coordinates under a name. A held name keeps its place, mark and bytes; a new one takes the first
+   free place, whose mark becomes 1. Nothing else is written. Refuses with 1, 2, 11, 3, 4, 6, 18. */
+uint32_t screens_save_shape(const double *x, size_t nx, const double *y, size_t ny, const double *z, size_t nz,
+    const size_t *t0, size_t nt0, const size_t *t1, size_t nt1, const size_t *t2, size_t nt2, uint8_t *marks,
+    size_t nmarks, uint8_t *names, size_t nnames, double *sx, size_t nsx, double *sy, size_t nsy, double *sz,
+    size_t nsz, const uint8_t name[8]);
+
+/* Frees the place of a name: sets its mark to 0 and writes nothing else. Refuses with 1, 2, 11, 3, 4, 6, 17. */
+uint32_t screens_drop_shape(const double *x, size_t nx, const double *y, size_t ny, const double *z, size_t nz,
+    const size_t *t0, size_t nt0, const size_t *t1, size_t nt1, const size_t *t2, size_t nt2, uint8_t *marks,
+    size_t nmarks, const uint8_t *names, size_t nnames, const double *sx, size_t nsx, const double *sy, size_t nsy,
+    const double *sz, size_t nsz, const uint8_t name[8]);
+
+/* Returns to the shape of a name: sets all coordinates to those saved, renews the cells of the matrix (n * n places)
+   whose row or column is of a node of the panels of a node that differs, and counts them, each one time. A node differs
+   if one of its numbers does; +0 and -0 differ, two NaN do not. These cells become the named shape's and all others
+   keep their numbers; a matrix that was the mesh's under this rule is then the named shape's, bit for bit. The store is
+   not written. Refuses with 12, 1, 2, 11, 3, 4, 6, 17, then 4 on the named shape; columns and matrix are then as they
+   were. */
+uint32_t screens_return_shape(uint32_t rule, double *x, size_t nx, double *y, size_t ny, double *z, size_t nz,
+    const size_t *t0, size_t nt0, const size_t *t1, size_t nt1, const size_t *t2, size_t nt2, double *matrix,
+    size_t n, const uint8_t *marks, size_t nmarks, const uint8_t *names, size_t nnames, const double *sx, size_t nsx,
+    const double *sy, size_t nsy, const double *sz, size_t nsz, const uint8_t name[8], size_t *count);
 
 /* ---- matrices and maps ------------------------------------------------------------------------------------------- */
 

@@ -18,7 +18,7 @@ use Rattle.scatter.specs.Mirror.{mirrored}
 use Rattle.scatter.proofs.Renewals.{renewed-from}
 use Rattle.scatter.proofs.Mirror.{mirrored-alike}
 use Rattle.pair_loops.specs.Additions.{Block, pairEntries, targetEntries, sourceEntries, entries}
-use Rattle.inductance.specs.Change.{Changed, Apart}
+use Rattle.scatter.specs.Change.{Changed, Apart}
 
 -- a pair adds nothing to (a, b) if one of its panels holds neither a nor b
 pair-misses-source : (f : Block) (m : Mesh) (i j a b : ℕ)

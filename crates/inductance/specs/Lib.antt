@@ -1,3 +1,2 @@
 pub mod Matrix
 pub mod Assembly
-pub mod Change

@@ -1,20 +1,16 @@
 -- What a call that is done has: a matrix of n × n numbers for few nodes, a map of a row for each node. Then every row ends within the numbers.
 use mathlib.Core.Path.{_≡_, refl, sym, ap, _∙_, subst}
 use mathlib.Core.Bool.{Bool, true, false, not, _&&_, true≢false}
-use mathlib.Core.List.{List, _∷_, _++_}
-use Prim.Native.Nat.{ℕ, _+_, _*_, _/_, _%_, _<_, _≤_}
-use native.Mathlib.Nat.{suc-mul, mul-le-mul-right, mul-zero, add-zero, not-suc-le-zero, div-add-mod'}
-use native.Mathlib.Omega.{arith}
+use mathlib.Core.List.{_∷_, _++_}
+use Prim.Native.Nat.{ℕ, _+_, _*_, _/_, _%_, _≤_}
+use native.Mathlib.Nat.{mul-zero, add-zero, not-suc-le-zero, div-add-mod'}
 use borrow.Author.Tests.{eqb-true, eq-eqb, leb-false}
 use lib.Dec.{eqb}
-use lib.ListN.{length, drop, length-drop}
-use lib.Seq.{length-take-le}
-use lib.Ieee.{Float}
 use Rattle.refusal.specs.Numbers.{nodalValues}
 use Rattle.refusal.specs.Checks.{check, first, Clear}
 use Rattle.refusal.proofs.Checks.{none-applies, first-passed, first-stopped}
 use Rattle.refusal.proofs.Tests.{or-off, differ-off}
-use Rattle.linkage.specs.Stretch.{stretch}
+use Rattle.lists.proofs.Stretches.{row-end}
 use Rattle.linkage.specs.Energy.{matrixChecks, energyRefusal, vectorsRefusal}
 use Rattle.linkage.specs.Flux.{lacksSources, brokenRows, rowsDiffer, mapChecks, mapRefusal}
 use Rattle.linkage.specs.Row.{nodeChecks, matrixRowRefusal, rowCount, mapRowChecks, mapRowRefusal}
@@ -22,14 +18,6 @@ use Rattle.linkage.specs.Row.{nodeChecks, matrixRowRefusal, rowCount, ma
 and-off : (a b : Bool) → a ≡ true → (a && b) ≡ false → b ≡ false
 and-off true b e h = h
 and-off false b e h = absurd (true≢false (sym e))
-
--- a row that starts within n rows of w ends within them
-pub row-end : (n w i : ℕ) → i < n → i * w + w ≤ n * w
-row-end n w i h = rw (← suc-mul i w) (mul-le-mul-right w h)
-
--- a row within the numbers has all of its own
-pub stretch-long : (m : List Float) (w i : ℕ) → i * w + w ≤ length m → length (stretch m w i) ≡ w
-stretch-long m w i h = length-take-le w (drop (i * w) m) (rw (length-drop (i * w) m) (omega arith))
 
 -- ---- a matrix
 pub vectors-sized : (n t size r : ℕ) → r ≡ vectorsRefusal n t size → r ≡ 0 → (t ≡ n) × (size ≡ n * n)

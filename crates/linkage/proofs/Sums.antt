@@ -10,7 +10,7 @@ use lib.Dec.{eqb}
 use lib.Ieee.{Float, mul, ofBits}
 use Rattle.binary64.specs.Binary64.{_⊗_, plusZero, half}
 use Rattle.linkage.specs.Answer.{valueAfter}
-use Rattle.linkage.specs.Stretch.{stretch}
+use Rattle.lists.specs.Stretch.{stretch}
 use Rattle.linkage.specs.Energy.{rowAdded, rowsAdded}
 
 pub rows-more : (l s t : List Float) (i : ℕ) → rowsAdded l s t (i + 1) ≡ rowAdded (stretch l (length s) i) s t i (rowsAdded l s t i) (length s)

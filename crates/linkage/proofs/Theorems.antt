@@ -17,10 +17,11 @@ use Rattle.linkage.specs.Energy.{energyRefusal, vectorsRefusal}
 use Rattle.linkage.specs.Flux.{lacksSources, brokenRows, rowsDiffer, mapChecks, mapRefusal}
 use Rattle.linkage.specs.Row.{matrixRowRefusal, rowCount, mapRowRefusal, rowAfter, matrixRow, mapRow}
 use Rattle.linkage.specs.Conditions.{VectorsNumbered, MatrixRowNumbered, Multiple, MapNumbered, MapRowNumbered}
-use Rattle.linkage.proofs.Sizes.{row-end, whole, one-vector, map-sized, stretch-long, matrix-row-sized, map-row-sized}
+use Rattle.linkage.proofs.Sizes.{whole, one-vector, map-sized, matrix-row-sized, map-row-sized}
 use lib.ListN.{length}
 use lib.Ieee.{Float}
-use Rattle.linkage.specs.Stretch.{stretch}
+use Rattle.lists.specs.Stretch.{stretch}
+use Rattle.lists.proofs.Stretches.{row-end, stretch-long}
 
 -- ---- two numbers that are tested to differ
 differ-on : (a b : ℕ) → (not (eqb a b) ≡ true) ↔ (a ≡ b → ⊥)

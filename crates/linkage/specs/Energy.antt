@@ -11,7 +11,7 @@ use Rattle.refusal.specs.Checks.{Check, check, first}
 use Rattle.mesh.specs.Mesh.{maxNodes}
 use Rattle.lists.specs.Sums.{runningSum}
 use Rattle.linkage.specs.Answer.{Answered}
-use Rattle.linkage.specs.Stretch.{stretch}
+use Rattle.lists.specs.Stretch.{stretch}
 
 -- x, and the first k products of row i added to it: (s_i · L_ij) · t_j
 abbrev pub rowAdded : List Float → List Float → List Float → ℕ → Float → ℕ → Float

@@ -12,7 +12,7 @@ use Rattle.refusal.specs.Checks.{Check, check, first, after}
 use Rattle.lists.specs.Filling.{tabulate}
 use Rattle.lists.specs.Sums.{sumTo}
 use Rattle.linkage.specs.Answer.{Answered}
-use Rattle.linkage.specs.Stretch.{stretch}
+use Rattle.lists.specs.Stretch.{stretch}
 
 -- the first k products of a row and the coefficients, added from +0 on
 abbrev pub fluxTo : List Float → List Float → ℕ → Float

@@ -1,5 +1,4 @@
 pub mod Answer
-pub mod Stretch
 pub mod Energy
 pub mod Flux
 pub mod Row

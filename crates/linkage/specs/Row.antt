@@ -7,7 +7,7 @@ use lib.ListN.{length}
 use lib.Ieee.{Float}
 use Rattle.refusal.specs.Numbers.{coefficients, mapLength, noSuchNode}
 use Rattle.refusal.specs.Checks.{Check, check, first}
-use Rattle.linkage.specs.Stretch.{stretch}
+use Rattle.lists.specs.Stretch.{stretch}
 use Rattle.linkage.specs.Energy.{matrixChecks}
 use Rattle.linkage.specs.Flux.{lacksSources, brokenRows}
 

@@ -50,7 +50,7 @@ fn add_rows(matrix: &[f64], s: &[f64], t: &[f64]) -> f64
     let n = s.len();
     let mut out = 0.0;
     for i in 0..n {
-        let row = crate::row::stretch(matrix, n, i);
+        let row = lists::stretch(matrix, n, i);
         out = add_row(row, s, t, i, out);
     }
     out

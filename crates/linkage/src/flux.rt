@@ -68,7 +68,7 @@ fn row_flux(map: &[f64], coefficients: &[f64], i: usize) -> f64
     requires { ⌜ i * length (now coefficients) + length (now coefficients) ≤ length (now map) ⌝ }
     ensures { λ r. ⌜ r ≡ Spec.rowFlux (passed map) (passed coefficients) i ⌝ }
 {
-    let row = crate::row::stretch(map, coefficients.len(), i);
+    let row = lists::stretch(map, coefficients.len(), i);
     flux_of_row(row, coefficients)
 }
 

@@ -4,17 +4,6 @@ ghost use Prim.Native.Nat.{_+_, _*_, _≤_};
 ghost use lib.ListN.{length};
 ghost use Rattle.lists.specs.Lent.{passed};
 ghost use Rattle.linkage.specs.Row as Spec;
-ghost use Rattle.linkage.specs.Stretch as Stretch;
-
-// w numbers from i · w on.
-pub fn stretch(m: &[f64], w: usize, i: usize) -> &[f64]
-    requires { ⌜ i * w + w ≤ length (now m) ⌝ }
-    ensures { λ r. ⌜ now r ≡ Stretch.stretch (passed m) w i ⌝ }
-{
-    let start = i * w;
-    let end = start + w;
-    &m[start..end]
-}
 
 // The number of the row of a node in a matrix for n nodes.
 pub fn triangle_mesh_matrix_row_refusal(matrix: &[f64], n: usize, node: usize) -> u32
@@ -37,7 +26,7 @@ pub fn triangle_mesh_matrix_row(matrix: &[f64], n: usize, node: usize) -> &[f64]
     if triangle_mesh_matrix_row_refusal(matrix, n, node) != 0 {
         return &matrix[0..0];
     }
-    stretch(matrix, n, node)
+    lists::stretch(matrix, n, node)
 }
 
 // The rows of a map for so many sources.
@@ -73,5 +62,5 @@ pub fn triangle_mesh_map_row(map: &[f64], sources: usize, node: usize) -> &[f64]
     if triangle_mesh_map_row_refusal(map, sources, node) != 0 {
         return &map[0..0];
     }
-    stretch(map, sources, node)
+    lists::stretch(map, sources, node)
 }

@@ -56,7 +56,7 @@ none-below t c all = go (someBelow t c) refl
     go false k = k
 
 -- ---- two tests that agree below c
-some-alike : (s t : ℕ → Bool) (c : ℕ) → ((i : ℕ) → i < c → s i ≡ t i) → someBelow s c ≡ someBelow t c
+pub some-alike : (s t : ℕ → Bool) (c : ℕ) → ((i : ℕ) → i < c → s i ≡ t i) → someBelow s c ≡ someBelow t c
 unfolding someBelow
 some-alike s t zero all = refl
 some-alike s t (suc c) all = rw (some-alike s t c (λ i l. all i (omega arith)), all c (omega arith))

@@ -2,7 +2,9 @@ pub mod Columns
 pub mod Counting
 pub mod Filled
 pub mod Filling
+pub mod First
 pub mod Indices
 pub mod Putting
 pub mod Runs
+pub mod Stretches
 pub mod Sums

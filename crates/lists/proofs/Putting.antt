@@ -5,10 +5,9 @@ use Prim.Native.Nat.{ℕ, _+_, _≤_}
 use native.Mathlib.Nat.{add-zero, zero-add}
 use native.Mathlib.Omega.{arith}
 use lib.ListN.{length, getD, take, drop, length-append, take-append-drop}
-use lib.Seq.{paste, take-length, take-at, drop-length, drop-append-add, drop-drop, length-take-le}
+use lib.Seq.{take-length, take-at, drop-length, drop-append-add, drop-drop, length-take-le}
 use Rattle.lists.specs.Putting.{Put}
-use Rattle.lists.proofs.Filling.{tabulate-all}
-use Rattle.lists.proofs.Runs.{RunTo, all-run}
+use Rattle.lists.proofs.Runs.{RunTo, all-put}
 
 -- a loop's end
 pub put-run : {held : List ℕ} {from : ℕ} {bytes : List ℕ} {k : ℕ} {left : List ℕ} (to : ℕ) → RunTo held from (length bytes) (λ (j : ℕ). getD bytes j 0) k left → length bytes ≤ k → to ≡ from + k
@@ -17,8 +16,7 @@ put-run {held} {from} {bytes} {k} to r l u =
     let e : k ≡ length bytes = omega (arith, r .below) in
     record {
       behind = u ∙ ap (λ (n : ℕ). from + n) e;
-      leaves = all-run r l
-          ∙ ap (λ (s : List ℕ). paste held from s (length bytes)) (tabulate-all 0 bytes)
+      leaves = all-put 0 bytes r l
           ∙ ap (λ (x : List ℕ). take from held ++ x ++ drop (from + length bytes) held) (take-length bytes)
           ∙ append-assoc (take from held) bytes (drop (from + length bytes) held);
     }

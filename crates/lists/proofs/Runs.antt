@@ -2,15 +2,15 @@
 -- A loop over one column or several then says of each in one line that it has begun, is a turn further, or is done; and each element of such a column is read back.
 use mathlib.Core.Path.{_≡_, refl, sym, ap, _∙_}
 use mathlib.Core.Logic.{_⊎_, inl, inr}
-use mathlib.Core.List.{List}
+use mathlib.Core.List.{List, [], _++_, append-nil}
 use Prim.Native.Nat.{ℕ, zero, suc, _+_, _<_, _≤_}
 use native.Mathlib.Nat.{zero-add, not-suc-le-zero, eq-or-lt-of-le}
 use native.Mathlib.Numerals.{add-one}
 use native.Mathlib.Omega.{arith}
-use lib.ListN.{length, getD, set, length-set}
-use lib.Seq.{getD-set-same, getD-set-other}
+use lib.ListN.{length, getD, set, take, drop, length-set}
+use lib.Seq.{paste, take-length, drop-length, getD-set-same, getD-set-other}
 use Rattle.lists.specs.Filling.{tabulate, run}
-use Rattle.lists.proofs.Filling.{run-start, run-length, run-turn, run-next, column-end}
+use Rattle.lists.proofs.Filling.{tabulate-all, run-start, run-length, run-turn, run-next, column-end}
 
 -- held before the loop, now after k turns
 pub record RunTo {A : Type 0} (held : List A) (a c : ℕ) (h : ℕ → A) (k : ℕ) (now : List A) : Type 0 where
@@ -38,6 +38,17 @@ module _ {A : Type 0} {held : List A} {a c : ℕ} {h : ℕ → A} where
 
   pub all-run : {k : ℕ} {now : List A} → RunTo held a c h k now → c ≤ k → now ≡ run held a c h c
   all-run {k} r l = let z : k ≡ c = omega (arith, r .below) in r .written ∙ ap (run held a c h) z
+
+-- a loop's end that puts the elements of a list
+pub all-put : {A : Type 0} (d : A) (source : List A) {held : List A} {a : ℕ} {k : ℕ} {now : List A}
+    → RunTo held a (length source) (λ (j : ℕ). getD source j d) k now → length source ≤ k → now ≡ paste held a source (length source)
+all-put {A = A} d source {held} {a} r l = all-run r l ∙ ap (λ (s : List A). paste held a s (length source)) (tabulate-all d source)
+
+-- of a list that is put over one as long
+pub put-over : {A : Type 0} (held source : List A) → length held ≡ length source → paste held 0 source (length source) ≡ source
+put-over {A = A} held source e =
+    let z : drop (0 + length source) held ≡ [] = ap (λ (k : ℕ). drop k held) (zero-add (length source) ∙ sym e) ∙ drop-length held in
+    ap (λ (r : List A). take (length source) source ++ r) z ∙ append-nil (take (length source) source) ∙ take-length source
 
 -- a column that the loop fills from its front, and one that it fills whole
 module _ {A : Type 0} {held : List A} {c : ℕ} {h : ℕ → A} where

@@ -1,4 +1,4 @@
--- Shared by the definitions: tests over the numbers below a count, whether one of them passes and how many do. Definitions only.
+-- Shared by the definitions: tests over the numbers below a count, whether one of them passes, how many do and which is the first. Definitions only.
 use mathlib.Core.Bool.{Bool, false, _||_, cond}
 use mathlib.Core.List.{List, [], _∷_}
 use Prim.Native.Nat.{ℕ, zero, suc, _+_}
@@ -22,3 +22,8 @@ someBelow t (suc c) = someBelow t c || t c
 unfoldable pub countBelow : (ℕ → Bool) → ℕ → ℕ
 countBelow t zero = 0
 countBelow t (suc c) = countBelow t c + cond (t c) 1 0
+
+-- the first of j, j + 1, …, c numbers, that passes; j + c if none does
+unfoldable pub nextFrom : (ℕ → Bool) → ℕ → ℕ → ℕ
+nextFrom t j zero = j
+nextFrom t j (suc c) = cond (t j) j (nextFrom t (suc j) c)

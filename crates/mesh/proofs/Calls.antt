@@ -26,11 +26,11 @@ abbrev pub meshFree : List Check → Bool
 meshFree cs = lacks 1 cs && (lacks 2 cs && (lacks 11 cs && lacks 3 cs))
 
 module _ (n p : ℕ) (m : Mesh) where
-  mesh-lacks : (k : ℕ) → T (apart k) → T (lacks k (meshChecks n p m))
+  pub mesh-lacks : (k : ℕ) → T (apart k) → T (lacks k (meshChecks n p m))
   unfolding meshChecks
   mesh-lacks k h = h
 
-  mesh-clear : Clear (meshChecks n p m) ↔ Accepted n p m
+  pub mesh-clear : Clear (meshChecks n p m) ↔ Accepted n p m
   unfolding meshRefusal
   mesh-clear =
       let w = none-applies (meshChecks n p m) (mesh-lacks 0 tt) in

@@ -3,31 +3,25 @@
 use mathlib.Core.Path.{_≡_, refl, sym, ap, _∙_}
 use mathlib.Core.Bool.{Bool, false, _||_}
 use mathlib.Core.List.{List}
-use Prim.Native.Nat.{ℕ, _*_, _-_, _<_, _≤_}
+use Prim.Native.Nat.{ℕ, _*_, _-_, _≤_}
 use native.Mathlib.Nat.{lt-of-lt-of-le}
 use lib.ListN.{length, length-set, replicate}
 use lib.Ieee.{Float}
 use borrow.Author.Tests.{eqb-false}
 use Rattle.lists.specs.Counting.{countBelow}
-use Rattle.lists.proofs.Counting.{none-at, count-alike}
-use Rattle.mesh.specs.Mesh.{Mesh, nnode, ntri, maxNodes}
+use Rattle.mesh.specs.Mesh.{Mesh, nnode, maxNodes}
 use Rattle.scatter.specs.Entries.{same, contributions, cellSum, square}
 use Rattle.scatter.specs.Renewal.{marked, renewed}
 use Rattle.scatter.specs.Mirror.{mirrored}
-use Rattle.scatter.proofs.Renewals.{renewed-same}
 use Rattle.scatter.specs.Flags.{IndicesBelow}
 use Rattle.pair_loops.specs.Additions.{Block, entries}
 use Rattle.pair_loops.specs.Ready.{Ready}
 use Rattle.inductance.specs.Matrix.{summedCell, cell, matrix}
-use Rattle.inductance.specs.Change.{Changed, Apart}
+use Rattle.scatter.specs.Change.{Changed}
 use Rattle.inductance.proofs.Change.{renewed-by}
-use Rattle.node_ring.proofs.Marks.{none-marked}
-use Rattle.node_ring.proofs.Count.{named-count}
+use Rattle.node_ring.proofs.Ring.{outside, ring-cells, ring-total}
 use Rattle.node_ring.proofs.Overlay.{elsewhere}
-use Rattle.node_move.specs.Move.{moved, joins, ring, Done, MoveReady}
-
-pub outside : (m : Mesh) (changed : ℕ → Bool) (a : ℕ) → ring m changed a ≡ false → Apart m changed a
-outside m changed a h p l t = let g = none-at (joins m changed a) (ntri m) p h l in rw t at g
+use Rattle.node_move.specs.Move.{moved, ring, Done, MoveReady}
 
 move-changes : (m : Mesh) (v : ℕ) (x y z : Float) → Changed (same v) m (moved m v x y z)
 move-changes m v x y z = record { t0-same = refl; t1-same = refl; t2-same = refl; kept = λ a h. sym (elsewhere m v x y z a (eqb-false a v h)) }
@@ -76,11 +70,9 @@ pub move-done : (cellOf : Mesh → ℕ → ℕ → Float) (m : Mesh) (v : ℕ) (
     → c ≡ 2 * nnode m * r - r * r
     → Done cellOf m old v x y z c (moved m v x y z) new
 move-done cellOf m v x y z old new marks n r c k e q w s t =
-    let d : (a : ℕ) → a < nnode m → marked marks a ≡ ring m (same v) a = λ a l. e a ∙ ap (λ (u : Bool). u || ring m (same v) a) (none-marked k a) in
+    let g = cellOf (moved m v x y z) in
     record {
       mesh = refl;
-      cells = w ∙ ap (λ (j : ℕ). renewed (marked marks) (cellOf (moved m v x y z)) j old) q ∙ renewed-same (marked marks) (ring m (same v)) (cellOf (moved m v x y z)) (nnode m) old d;
-      total = t
-          ∙ ap (λ (j : ℕ). 2 * nnode m * j - j * j) (s ∙ count-alike (marked marks) (ring m (same v)) (nnode m) d)
-          ∙ sym (named-count (ring m (same v)) (nnode m));
+      cells = ring-cells (ring m (same v)) marks k e g (nnode m) old new (w ∙ ap (λ (j : ℕ). renewed (marked marks) g j old) q);
+      total = ring-total (ring m (same v)) marks k e (nnode m) r c s t;
     }

@@ -43,21 +43,21 @@ three-marks m s b a =
     shape p t u v = rw (or-false v, or-assoc p t u, or-assoc p (t || u) v, or-assoc t u v)
 
 -- one panel more, read into the array s: the marks of the panels below p and of p
-pub ring-turn : (m : Mesh) (v a p : ℕ) (s : List ℕ) (t u old : Bool)
+pub ring-turn : (m : Mesh) (changed : ℕ → Bool) (a p : ℕ) (s : List ℕ) (t u old : Bool)
     → s ≡ triangleIndices m p
-    → t ≡ (old || someBelow (joins m (same v) a) p)
-    → u ≡ (t || (anyOf (same v) (triple s) && anyOf (same a) (triple s)))
-    → u ≡ (old || someBelow (joins m (same v) a) (p + 1))
-ring-turn m v a p s t u old e h w =
-    let g = subst (λ (l : List ℕ). u ≡ (t || (anyOf (same v) (triple l) && anyOf (same a) (triple l)))) e w in
+    → t ≡ (old || someBelow (joins m changed a) p)
+    → u ≡ (t || (anyOf changed (triple s) && anyOf (same a) (triple s)))
+    → u ≡ (old || someBelow (joins m changed a) (p + 1))
+ring-turn m changed a p s t u old e h w =
+    let g = subst (λ (l : List ℕ). u ≡ (t || (anyOf changed (triple l) && anyOf (same a) (triple l)))) e w in
     g
-    ∙ ap (λ (b : Bool). b || joins m (same v) a p) h
-    ∙ or-assoc old (someBelow (joins m (same v) a) p) (joins m (same v) a p)
-    ∙ ap (λ (b : Bool). old || b) (sym (some-more (joins m (same v) a) p))
+    ∙ ap (λ (b : Bool). b || joins m changed a p) h
+    ∙ or-assoc old (someBelow (joins m changed a) p) (joins m changed a p)
+    ∙ ap (λ (b : Bool). old || b) (sym (some-more (joins m changed a) p))
 
-pub ring-start : (m : Mesh) (v a : ℕ) (old : Bool) → old ≡ (old || someBelow (joins m (same v) a) 0)
+pub ring-start : (m : Mesh) (changed : ℕ → Bool) (a : ℕ) (old : Bool) → old ≡ (old || someBelow (joins m changed a) 0)
 unfolding someBelow
-ring-start m v a old = sym (or-false old)
+ring-start m changed a old = sym (or-false old)
 
 pub panel-below : (n k : ℕ) (m : Mesh) (p : ℕ) (s : List ℕ) → n ≡ k → AllBelow k (triangleIndices m p) → s ≡ triangleIndices m p → AllBelow n (triple s)
 panel-below n k m p s l b e =

@@ -1,10 +1,12 @@
 -- Document 01's move: the ring of changed nodes, the cells that a set of nodes names, and their count. Definitions only.
-use mathlib.Core.Bool.{Bool, _&&_}
+use mathlib.Core.Path.{_≡_}
+use mathlib.Core.Bool.{Bool, _&&_, _||_}
+use mathlib.Core.List.{List}
 use Prim.Native.Nat.{ℕ, zero, suc, _+_}
 use Rattle.lists.specs.Counting.{anyOf, someBelow, countBelow}
 use Rattle.mesh.specs.Mesh.{Mesh, ntri, triangleIndices}
 use Rattle.scatter.specs.Entries.{same}
-use Rattle.scatter.specs.Renewal.{named}
+use Rattle.scatter.specs.Renewal.{named, marked}
 
 -- panel p holds a changed node and the node a
 abbrev pub joins : Mesh → (ℕ → Bool) → ℕ → ℕ → Bool
@@ -22,3 +24,12 @@ countRows t n (suc c) = countRows t n c + countBelow (t c) n
 -- how many of the n × n cells are named by the set r
 abbrev pub namedCount : (ℕ → Bool) → ℕ → ℕ
 namedCount r n = countRows (named r) n n
+
+-- ---- what the functions that mark leave of the marks old
+-- the nodes s of a panel are marked if one of them is changed
+abbrev pub MarksPanel : (ℕ → Bool) → List ℕ → List Bool → List Bool → Type 0
+MarksPanel changed s old new = (a : ℕ) → marked new a ≡ (marked old a || (anyOf changed s && anyOf (same a) s))
+
+-- the ring of the changed nodes is marked
+abbrev pub MarksRing : Mesh → (ℕ → Bool) → List Bool → List Bool → Type 0
+MarksRing m changed old new = (a : ℕ) → marked new a ≡ (marked old a || ring m changed a)

@@ -1,7 +1,7 @@
 // What a move of one node needs before anything is written: its number, tested on the moved mesh, and the
-// ring of the node, marked and counted.
+// ring of the node, marked and counted; for a return to a shape the rings of all nodes that change.
 ghost use mathlib.Core.Path.{_≡_};
-ghost use mathlib.Core.Bool.{_||_, _&&_};
+ghost use mathlib.Core.Bool.{_||_};
 ghost use mathlib.Core.List.{[]};
 ghost use Prim.Native.Nat.{ℕ, _<_, _≤_, _*_, _-_};
 ghost use lib.ListN.{length};
@@ -13,7 +13,7 @@ ghost use Rattle.scatter.specs.Entries.{same};
 ghost use Rattle.scatter.specs.Renewal.{marked, AllBelow};
 ghost use Rattle.scatter.specs.Flags.{IndicesBelow};
 ghost use Rattle.node_ring.specs.Place.{moved, placeRefusal};
-ghost use Rattle.node_ring.specs.Ring.{ring};
+ghost use Rattle.node_ring.specs.Ring.{MarksPanel, MarksRing};
 
 // The place of node k in the moved mesh, read without writing it.
 fn node_moved(
@@ -141,10 +141,21 @@ fn mark_three(marks: &mut [bool], s: [usize; 3])
 fn mark_panel(marks: &mut [bool], s: [usize; 3], v: usize)
     requires { ⌜ AllBelow (length (now marks)) (triple s) ⌝ }
     requires { ⌜ v < length (now marks) ⌝ }
-    ensures { λ _. ⌜ ((a : ℕ) → marked (left marks) a ≡ (marked (passed marks) a || (anyOf (same v) (triple s) && anyOf (same a) (triple s)))) ⌝ }
+    ensures { λ _. ⌜ MarksPanel (same v) (triple s) (passed marks) (left marks) ⌝ }
 {
     if holds(s, v) {
         mark_three(marks, s);
+    }
+}
+
+// The nodes of a panel are marked if one of them is changed.
+fn mark_touched(marks: &mut [bool], changed: &[bool], panel: [usize; 3])
+    requires { ⌜ AllBelow (length (now marks)) (triple panel) ⌝ }
+    requires { ⌜ AllBelow (length (now changed)) (triple panel) ⌝ }
+    ensures { λ _. ⌜ MarksPanel (marked (passed changed)) (triple panel) (passed marks) (left marks) ⌝ }
+{
+    if scatter::touches(changed, panel) {
+        mark_three(marks, panel);
     }
 }
 
@@ -153,11 +164,25 @@ pub fn mark_ring(marks: &mut [bool], t0: &[usize], t1: &[usize], t2: &[usize], v
     requires { ⌜ PanelColumnsAlike (meshOf [] [] [] (now t0) (now t1) (now t2)) ⌝ }
     requires { ⌜ IndicesBelow (length (now marks)) (meshOf [] [] [] (now t0) (now t1) (now t2)) ⌝ }
     requires { ⌜ v < length (now marks) ⌝ }
-    ensures { λ _. ⌜ ((a : ℕ) → marked (left marks) a ≡ (marked (passed marks) a || ring (meshOf [] [] [] (passed t0) (passed t1) (passed t2)) (same v) a)) ⌝ }
+    ensures { λ _. ⌜ MarksRing (meshOf [] [] [] (passed t0) (passed t1) (passed t2)) (same v) (passed marks) (left marks) ⌝ }
 {
     let mut p = 0;
     while p < t0.len() {
         mark_panel(marks, mesh::triangle_indices(t0, t1, t2, p), v);
+        p += 1;
+    }
+}
+
+// The nodes of the rings of all changed nodes are marked.
+pub fn mark_rings(marks: &mut [bool], changed: &[bool], t0: &[usize], t1: &[usize], t2: &[usize])
+    requires { ⌜ PanelColumnsAlike (meshOf [] [] [] (now t0) (now t1) (now t2)) ⌝ }
+    requires { ⌜ IndicesBelow (length (now marks)) (meshOf [] [] [] (now t0) (now t1) (now t2)) ⌝ }
+    requires { ⌜ IndicesBelow (length (now changed)) (meshOf [] [] [] (now t0) (now t1) (now t2)) ⌝ }
+    ensures { λ _. ⌜ MarksRing (meshOf [] [] [] (passed t0) (passed t1) (passed t2)) (marked (passed changed)) (passed marks) (left marks) ⌝ }
+{
+    let mut p = 0;
+    while p < t0.len() {
+        mark_touched(marks, changed, mesh::triangle_indices(t0, t1, t2, p));
         p += 1;
     }
 }

@@ -8,15 +8,14 @@ use native.Mathlib.Omega.{arith}
 use lib.Dec.{eqb}
 use lib.ListN.{length}
 use lib.Ieee.{Float}
-use Rattle.lists.specs.Counting.{anyOf, triple}
+use Rattle.lists.specs.Counting.{anyOf, triple, nextFrom}
 use Rattle.mesh.specs.Mesh.{Mesh, ntri, triangleIndices, triangleNodes}
 use Rattle.refusal.proofs.Tests.{or-off}
 use Rattle.scatter.specs.Entries.{Entry, blockEntries, withTransposed}
 use Rattle.scatter.specs.Renewal.{named, scatter, renewing, marked}
-use Rattle.scatter.specs.Links.{nextFrom}
 use Rattle.scatter.proofs.Steps.{renewing-append, length-renewing}
 use Rattle.scatter.proofs.Misses.{block-skipped}
-use Rattle.scatter.proofs.Links.{next-keeps}
+use Rattle.lists.proofs.First.{next-keeps}
 use Rattle.pair_loops.specs.Additions.{Block, pairEntries, targetEntries, sourceEntries}
 
 module _ (r : ℕ → Bool) (n : ℕ) (f : Block) (m : Mesh) where

@@ -49,4 +49,9 @@ fileLength = 15
 abbrev pub displayRange : ℕ
 displayRange = 16
 
--- 17 to 22 are document 02's: each comes here, and to src/lib.rt, with the request that brings it
+-- ---- document 02's: each comes here, and to src/lib.rt, with the request that brings it
+abbrev pub unknownName : ℕ
+unknownName = 17
+
+abbrev pub noPlace : ℕ
+noPlace = 18

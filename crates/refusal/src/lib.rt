@@ -32,6 +32,10 @@ pub const FILE_LENGTH: u32 = 15;
 
 pub const DISPLAY_RANGE: u32 = 16;
 
+pub const UNKNOWN_NAME: u32 = 17;
+
+pub const NO_PLACE: u32 = 18;
+
 // A number of document 01's table, and a value, which is zero on a refusal.
 pub struct Answer {
     pub refusal: u32,

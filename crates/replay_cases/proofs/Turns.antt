@@ -26,7 +26,7 @@ no-turn agrees cases differ = record { none = λ e. (refl, refl); one = λ e. ab
 
 -- a case of kind k with bytes b is judged
 pub a-turn : (agrees : ℕ → List ℕ → Bool) (k : ℕ) (b : List ℕ) {cases differ cases' differ' : List ℕ}
-    → k < 64
+    → k < 128
     → cases' ≡ counted cases k
     → differ' ≡ judged (agrees k b) differ k
     → Turn agrees cases differ true cases' differ'

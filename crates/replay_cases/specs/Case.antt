@@ -10,11 +10,11 @@ use Rattle.lists.specs.Filling.{tabulate}
 use Rattle.panel_file.specs.LittleEndian.{littleEndian}
 use Rattle.replay_words.specs.Words.{sizeOf}
 
--- a case's kind by its head; 64 where it has a kind or a size that no buffer holds
+-- a case's kind by its head; 128 where it has a kind or a size that no buffer holds
 unfoldable pub kindOf : List ℕ → ℕ
 kindOf h =
     let kind = littleEndian 4 h 0 in
-    cond (ltb 63 kind) 64 (cond (ltb 2048 (sizeOf (littleEndian 4 h 4) (littleEndian 8 h 8))) 64 kind)
+    cond (ltb 127 kind) 128 (cond (ltb 2048 (sizeOf (littleEndian 4 h 4) (littleEndian 8 h 8))) 128 kind)
 
 abbrev pub wordAt : List ℕ → ℕ → ℕ
 wordAt b k = littleEndian 8 b (k * 8)

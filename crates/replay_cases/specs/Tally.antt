@@ -7,7 +7,7 @@ use lib.ListN.{getD, set, replicate}
 
 -- no case of any kind
 abbrev pub none : List ℕ
-none = replicate 64 0
+none = replicate 128 0
 
 -- one more at k
 abbrev pub counted : List ℕ → ℕ → List ℕ
@@ -21,7 +21,7 @@ judged ok differ k = cond ok differ (counted differ k)
 -- and held to what its bytes say. Which case was read no contract can say.
 pub record Turn (agrees : ℕ → List ℕ → Bool) (cases differ : List ℕ) (r : Bool) (cases' differ' : List ℕ) : Type 0 where
   pub none : r ≡ false → (cases' ≡ cases) × (differ' ≡ differ)
-  pub one : r ≡ true → (k : ℕ) × (b : List ℕ) × (k < 64) × (cases' ≡ counted cases k) × (differ' ≡ judged (agrees k b) differ k)
+  pub one : r ≡ true → (k : ℕ) × (b : List ℕ) × (k < 128) × (cases' ≡ counted cases k) × (differ' ≡ judged (agrees k b) differ k)
 
 -- the sum of the first n
 unfoldable pub total : List ℕ → ℕ → ℕ

@@ -6,7 +6,7 @@ ghost use Rattle.lists.specs.Lent.{passed};
 ghost use Rattle.replay_cases.specs.Case as Spec;
 use crate::case;
 
-// A case by its kind and its bytes behind the head, with zeros behind these; of kind 64 where there is none.
+// A case by its kind and its bytes behind the head, with zeros behind these; of kind 128 where there is none.
 pub struct Case {
     pub kind: usize,
     pub bytes: [u8; 16384],
@@ -28,10 +28,10 @@ fn bytes(size: usize) -> [u8; 16384]
 }
 
 fn none() -> Case
-    ensures { λ r. ⌜ (r .kind ≡ 64) × (r .bytes ≡ replicate 16384 0) ⌝ }
+    ensures { λ r. ⌜ (r .kind ≡ 128) × (r .bytes ≡ replicate 16384 0) ⌝ }
 {
     Case {
-        kind: 64,
+        kind: 128,
         bytes: [0u8; 16384],
     }
 }
@@ -43,7 +43,7 @@ fn behind(head: &[u8; 16]) -> Case
     let all = &head[..];
     let kind = case::kind(all);
     let size = case::size(all);
-    if kind > 63 {
+    if kind > 127 {
         return none();
     }
     if size > 2048 {

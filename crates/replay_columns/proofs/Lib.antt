@@ -1,2 +1,4 @@
 pub mod Ends
+pub mod Leaving
 pub mod Mesh
+pub mod Parts

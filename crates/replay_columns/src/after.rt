@@ -8,7 +8,7 @@ use replay_words::buffers::kept;
 use replay_words::words::same_count;
 
 // Three columns after the call, and before it.
-fn kept_columns(
+pub fn kept_columns(
     refusal: u32,
     x: &[f64],
     y: &[f64],

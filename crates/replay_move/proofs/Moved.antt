@@ -1,43 +1,25 @@
--- What a move leaves, in the form that lent buffers are compared in: what is due if it is done, what was there on a refusal. The claim has the two cases apart; here
--- they are joined by the number.
-use mathlib.Core.Path.{_≡_, ap, refl, sym, _∙_}
-use mathlib.Core.Bool.{Bool, true, false, cond}
+-- What a move leaves, in the form that lent buffers are compared in: the two cases of its claim joined by the number. And the places of what stands behind the mesh.
+use mathlib.Core.Path.{_≡_, ap}
+use mathlib.Core.Bool.{Bool, cond}
 use mathlib.Core.List.{List}
 use Prim.Native.Nat.{ℕ, _+_, _-_, _*_, _<_, _≤_}
 use native.Mathlib.Omega.{arith}
 use mir.Syntax.{w64}
 use mir.Val.{Fits}
-use borrow.Author.Tests.{eqb-true, eqb-false}
 use lib.Dec.{eqb}
-use lib.ListN.{length, getD, take, length-take}
+use lib.ListN.{length, getD, take}
 use lib.Ieee.{Float}
 use Rattle.refusal.specs.Checks.{after}
-use Rattle.refusal.proofs.Checks.{after-done, after-refused}
 use Rattle.binary64.specs.Binary64.{at}
 use Rattle.mesh.specs.Mesh.{Mesh, meshOf, nnode}
 use Rattle.scatter.specs.Entries.{same}
 use Rattle.scatter.specs.Renewal.{renewed}
 use Rattle.node_move.specs.Move.{moved, ring, namedCount, MoveClaim, MovedBy}
-use Rattle.replay_words.proofs.Lent.{at-most}
 use Rattle.replay_words.specs.Words.{cutAt, part, vectorAt}
 use Rattle.replay_columns.specs.After.{leftAsDue}
+use Rattle.replay_columns.proofs.Leaving.{by-number, joined, cells-short}
 use Rattle.lists.proofs.Indices.{index-fits}
 use Rattle.replay_move.specs.Move.{moveInto, moveOf}
-
--- a column or the matrix, by the two cases
-joined : {A : Type 0} (r : ℕ) (due held new : List A) → (r ≡ 0 → new ≡ due) → ((r ≡ 0 → ⊥) → new ≡ held) → new ≡ after r due held
-joined {A} r due held new d h = go (eqb r 0) refl
-  where
-    go : (t : Bool) → eqb r 0 ≡ t → new ≡ after r due held
-    go true e = let z = eqb-true r 0 e in d z ∙ sym (after-done r due held z)
-    go false e = let z = eqb-false r 0 e in h z ∙ sym (after-refused r due held z)
-
-counted : (r due new : ℕ) → (r ≡ 0 → new ≡ due) → ((r ≡ 0 → ⊥) → new ≡ 0) → new ≡ cond (eqb r 0) due 0
-counted r due new d h = go (eqb r 0) refl
-  where
-    go : (t : Bool) → eqb r 0 ≡ t → new ≡ cond (eqb r 0) due 0
-    go true e = rw e (d (eqb-true r 0 e))
-    go false e = rw e (h (eqb-false r 0 e))
 
 record Left (cellOf : Mesh → ℕ → ℕ → Float) (m : Mesh) (old : List Float) (v : ℕ) (px py pz : Float) (r count : ℕ) (m′ : Mesh) (new : List Float) : Type 0 where
   pub total : count ≡ cond (eqb r 0) (namedCount (ring m (same v)) (nnode m)) 0
@@ -50,7 +32,7 @@ left : {Choice : Type 0} {cellOf : Mesh → ℕ → ℕ → Float} {matrixOf : M
     {refusal : ℕ} {m : Mesh} {old : List Float} {v : ℕ} {px py pz : Float} {r count : ℕ} {m′ : Mesh} {new : List Float}
     → MoveClaim Choice cellOf matrixOf refusal m old v px py pz r count m′ new → Left cellOf m old v px py pz r count m′ new
 left {r = r} h = record {
-  total = counted r _ _ (λ e. h .accepted e .total) (λ n. h .refused n .2);
+  total = by-number r _ _ _ (λ e. h .accepted e .total) (λ n. h .refused n .2);
   cells = joined r _ _ _ (λ e. h .accepted e .cells) (λ n. h .refused n .1);
   x = joined r _ _ _ (λ e. ap (λ (k : Mesh). k .xs) (h .accepted e .mesh)) (λ n. ap (λ (k : Mesh). k .xs) (h .refused n .0));
   y = joined r _ _ _ (λ e. ap (λ (k : Mesh). k .ys) (h .accepted e .mesh)) (λ n. ap (λ (k : Mesh). k .ys) (h .refused n .0));
@@ -69,10 +51,6 @@ compared number p w k t0 t1 t2 s h e =
     let l = left h in
     let f = rw (← s .0, ← s .1, ← s .2, ← s .3) at e in
     rw (← h .number, ← l .total, ← l .cells, ← l .x, ← l .y, ← l .z) f
-
--- the matrix is a part of n numbers
-pub cells-short : (g n size : ℕ) (l : List Float) → n ≤ size → length (take (g + 1 + n - (g + 1)) l) ≤ size
-cells-short g n size l h = at-most (g + 1 + n - (g + 1)) size l (omega arith)
 
 -- the places of what stands behind a mesh that ends at g, with a matrix of n cells: all within the case
 pub record Places (g n : ℕ) : Type 0 where
@@ -108,33 +86,9 @@ pub results-inside : (g n nx ny nz : ℕ) (l : List Float)
     → g + 5 + n + 2 + length (take (g + 1 + n - (g + 1)) l) + nx + ny + nz ≤ 2048
 results-inside g n nx ny nz l a b = omega (arith, cells-short g n 576 l b)
 
--- the lengths of what the call leaves are those of what it was lent, and so of what the case has
-pub as-long : (k nx ny nz n : ℕ) {x y z cells x0 y0 z0 cells0 : List Float}
-    → k + 2 + length cells0 + length x0 + length y0 + length z0 ≤ 2048
-    → (x ≡ x0) × (y ≡ y0) × (z ≡ z0) × (cells ≡ cells0)
-    → nx ≡ length x
-    → ny ≡ length y
-    → nz ≡ length z
-    → n ≡ length cells
-    → (k + 2 + n + nx + ny + nz ≤ 2048) × ((nx ≡ length x0) × (ny ≡ length y0) × (nz ≡ length z0) × (n ≡ length cells0))
-as-long k nx ny nz n h s ex ey ez en =
-    let x = ex ∙ ap length (s .0) in
-    let y = ey ∙ ap length (s .1) in
-    let z = ez ∙ ap length (s .2) in
-    let e = en ∙ ap length (s .3) in
-    (omega (arith, h, x, y, z, e), (x, y, z, e))
-
--- a copy is as long as what it holds
-pub copy-long : (v copy : List Float) → part copy 0 (length v) ≡ v → length v ≤ length copy
-copy-long v copy e = omega (arith, ap length e, length-take (length v - 0) copy)
-
 -- the place behind a mesh is within the case
 pub behind-inside : (g : ℕ) → g ≤ 298 → g < 2048
 behind-inside g h = omega arith
-
--- a column is short enough to be copied
-pub column-short : (n : ℕ) → n ≤ 48 → n ≤ 576
-column-short n h = omega arith
 
 -- the move on copies that are what the case has, with what stands behind the mesh
 pub behind-mesh : (rule : ℕ) (f : List Float) (w : List ℕ) (g n : ℕ) (p : List Float) (t0 t1 t2 : List ℕ) {x y z x' y' z' cells' : List Float} {b : Bool}

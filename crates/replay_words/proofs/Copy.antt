@@ -1,10 +1,10 @@
--- A copy that is made from the front: one store more, and the whole.
+-- A copy that is made from the front: one store more, the whole, and its length.
 use mathlib.Core.Path.{_≡_, ap, sym, _∙_}
 use mathlib.Core.List.{List, [], _∷_, _++_}
-use Prim.Native.Nat.{ℕ, _+_, _-_, _<_}
+use Prim.Native.Nat.{ℕ, _+_, _-_, _<_, _≤_}
 use native.Mathlib.Numerals.{add-one}
 use native.Mathlib.Omega.{arith}
-use lib.ListN.{length, getD, set, take}
+use lib.ListN.{length, getD, set, take, length-take}
 use lib.Seq.{take-suc, take-suc-set, take-length}
 use Rattle.replay_words.specs.Words.{part}
 
@@ -18,3 +18,7 @@ module _ {A : Type 0} where
   copy-whole v c i l e =
       let z : length v - 0 ≡ i = omega (arith, l) in
       ap (λ (k : ℕ). take k c) z ∙ e ∙ ap (λ (k : ℕ). take k v) l ∙ take-length v
+
+  -- a copy is as long as what it holds
+  pub copy-long : (v copy : List A) → part copy 0 (length v) ≡ v → length v ≤ length copy
+  copy-long v copy e = omega (arith, ap length e, length-take (length v - 0) copy)

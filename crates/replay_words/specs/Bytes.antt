@@ -1,5 +1,5 @@
 -- The replay: bytes in a stored case: where they end, and their comparison. Definitions only.
-use mathlib.Core.Bool.{Bool, true, _&&_}
+use mathlib.Core.Bool.{Bool, true, cond, _&&_}
 use mathlib.Core.List.{List}
 use Prim.Native.Nat.{ℕ, zero, suc, _+_, _/_}
 use lib.Dec.{eqb}
@@ -17,3 +17,7 @@ bytesTo a b (suc n) = bytesTo a b n && eqb (getD a n 0) (getD b n 0)
 -- as many, and each the same
 unfoldable pub sameBytes : List ℕ → List ℕ → Bool
 sameBytes a b = eqb (length a) (length b) && bytesTo a b (length a)
+
+-- bytes that a call may change: the stored results, or on a refusal what they were before
+unfoldable pub keptBytes : ℕ → List ℕ → List ℕ → List ℕ → Bool
+keptBytes r a before stored = cond (eqb r 0) (sameBytes a stored) (sameBytes a before)

@@ -26,3 +26,13 @@ pub fn same_bytes(a: &[u8], b: &[u8]) -> bool
     }
     ok
 }
+
+// Bytes that a call may change: the stored results, or on a refusal what they were before.
+pub fn kept_bytes(refusal: u32, a: &[u8], before: &[u8], stored: &[u8]) -> bool
+    ensures { λ r. ⌜ r ≡ Spec.keptBytes refusal (passed a) (passed before) (passed stored) ⌝ }
+{
+    if refusal == 0 {
+        return same_bytes(a, stored);
+    }
+    same_bytes(a, before)
+}

@@ -8,13 +8,12 @@ use native.Mathlib.Nat.{eq-or-lt-of-le}
 use native.Mathlib.Omega.{arith}
 use lib.ListN.{length, set}
 use lib.Seq.{getD-set-same, getD-set-other}
-use Rattle.lists.specs.Counting.{anyOf}
+use Rattle.lists.specs.Counting.{anyOf, nextFrom}
+use Rattle.lists.proofs.First.{next-none}
 use Rattle.mesh.specs.Mesh.{Mesh, ntri, triangleIndices}
 use Rattle.refusal.proofs.Tests.{or-off}
 use Rattle.scatter.specs.Renewal.{named, marked}
-use Rattle.scatter.specs.Links.{nextFrom}
 use Rattle.scatter.specs.Flags.{Flagged}
-use Rattle.scatter.proofs.Links.{next-none}
 
 pub flag-more : (m : Mesh) (marks flags : List Bool) (i : ℕ) (v : Bool)
     → i < length flags → v ≡ anyOf (marked marks) (triangleIndices m i) → Flagged i m marks flags → Flagged (i + 1) m marks (set flags i v)

@@ -14,21 +14,20 @@ use lib.ListN.{length, set}
 use lib.Seq.{set-getD}
 use lib.Ieee.{Float, nan}
 use Rattle.binary64.specs.Binary64.{at, plusZero}
+use Rattle.lists.specs.Counting.{nextFrom}
 use Rattle.lists.specs.Filling.{filled, run}
 use Rattle.lists.proofs.Filling.{fill-start, column-long, column-end, run-start, run-run, run-length, run-turn, run-next}
+use Rattle.lists.proofs.First.{next-bounds, next-passes, next-keeps}
 use Rattle.lists.proofs.Runs.{run-before, run-behind, run-inside}
+use Rattle.lists.proofs.Stretches.{row-end}
 use Rattle.scatter.specs.Entries.{square}
 use Rattle.mesh.specs.Mesh.{maxNodes}
 use Rattle.scatter.specs.Renewal.{named, renewedCell, renewed, marked, Sized}
 use Rattle.scatter.specs.Mirror.{mirrored, cellsOf}
-use Rattle.scatter.specs.Links.{nextFrom, LinksNext}
-use Rattle.scatter.proofs.Links.{next-bounds, next-passes, next-keeps}
+use Rattle.scatter.specs.Links.{LinksNext}
 
 rows-fit : (rows n : ℕ) → rows ≤ n → rows * n ≤ n * n
 rows-fit rows n l = mul-le-mul l (le-refl n)
-
-row-end : (n row : ℕ) → row < n → row * n + n ≤ n * n
-row-end n row l = rw (← suc-mul row n) (rows-fit (suc row) n l)
 
 -- ---- a row
 -- the first k columns of a row are done
@@ -71,7 +70,7 @@ module _ (r : ℕ → Bool) (g : ℕ → ℕ → Float) (n : ℕ) (held : List F
 
 module _ {r : ℕ → Bool} {g : ℕ → ℕ → Float} {n : ℕ} {held : List Float} {row : ℕ} where
   pub row-begun : {col : ℕ} → length held ≡ n * n → row < n → col ≡ nextFrom (named r row) 0 (n - 0) → RowRenewed r g n held row held col
-  row-begun size here e = scan r g n held row 0 (rw size (row-end n row here)) (omega arith) (run-start held (row * n) n (renewedCell r g n held row)) e
+  row-begun size here e = scan r g n held row 0 (rw size (row-end n n row here)) (omega arith) (run-start held (row * n) n (renewedCell r g n held row)) e
 
   pub row-next : {col next : ℕ} {now new : List Float} {v : Float}
       → RowRenewed r g n held row now col
@@ -136,7 +135,7 @@ module _ {r : ℕ → Bool} {g : ℕ → ℕ → Float} {n : ℕ} {held : List F
       let done : new ≡ filled held (n * n) q ((row + 1) * n) =
       e
       ∙ ap (λ (x : List Float). run x (row * n) n h n) (w .written)
-      ∙ run-run held (n * n) q h (row * n) n (row-end n row l) (λ k b. all k b ∙ rw (digits-div row b, digits-mod row b))
+      ∙ run-run held (n * n) q h (row * n) n (row-end n n row l) (λ k b. all k b ∙ rw (digits-div row b, digits-mod row b))
       ∙ ap (filled held (n * n) q) z in
       record {
         size = w .size;
@@ -156,7 +155,7 @@ module _ {r : ℕ → Bool} {g : ℕ → ℕ → Float} {n : ℕ} {held : List F
   row-held {row} {now} w l k b =
       let room : 0 + n * n ≤ length held = omega (arith, w .size) in
       ap (λ (x : List Float). at x (row * n + k)) (w .written)
-      ∙ run-behind nan held 0 (n * n) (dueAt r g n held) room (row * n) (row * n + k) (omega (arith, row-end n row l)) (omega arith)
+      ∙ run-behind nan held 0 (n * n) (dueAt r g n held) room (row * n) (row * n + k) (omega (arith, row-end n n row l)) (omega arith)
 
   -- and one above it holds what is due
   pub row-due : {row : ℕ} {now : List Float} → RowsRenewed r g n held row now → (a b : ℕ) → a < row → b < n → at now (a * n + b) ≡ renewedCell r g n held a b

@@ -3,3 +3,4 @@ pub mod Renewal
 pub mod Mirror
 pub mod Links
 pub mod Flags
+pub mod Change

@@ -11,12 +11,12 @@ ghost use Rattle.lists.specs.Lent.{passed, left};
 ghost use Rattle.binary64.specs.Binary64.{plusZero};
 ghost use Rattle.mesh.specs.Mesh.{maxNodes, meshOf};
 ghost use Rattle.mesh.specs.Conditions.{PanelColumnsAlike};
-ghost use Rattle.lists.specs.Counting.{anyOf, triple};
+ghost use Rattle.lists.specs.Counting.{anyOf, triple, nextFrom};
 ghost use Rattle.lists.specs.Filling.{run};
 ghost use Rattle.scatter.specs.Entries.{entry, rowEntries, blockEntries, oriented, withTransposed};
 ghost use Rattle.scatter.specs.Renewal.{named, renewedCell, renewed, addAt, renewing, marked, Sized, AllBelow};
 ghost use Rattle.scatter.specs.Mirror.{mirrored, cellsOf, copiedBelow};
-ghost use Rattle.scatter.specs.Links.{nextFrom, LinksNext};
+ghost use Rattle.scatter.specs.Links.{LinksNext};
 ghost use Rattle.scatter.specs.Flags.{IndicesBelow, Flagged};
 
 // One addition.

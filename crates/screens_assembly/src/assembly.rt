@@ -8,6 +8,8 @@ ghost use Rattle.linkage.specs.Flux as Flux;
 ghost use Rattle.linkage.specs.Flux.{Linked};
 ghost use Rattle.linkage.specs.Row as Row;
 ghost use Rattle.node_move.specs.Move.{MovedBy};
+ghost use Rattle.shape_store.specs.Store.{passedStore};
+ghost use Rattle.shape_return.specs.Return.{ReturnedBy, lentScreen};
 ghost use Rattle.screens_assembly.specs.Rows.{RowAt};
 
 // The matrix, row by row, under the rule of a number from 1 to 5.
@@ -150,4 +152,45 @@ pub extern "C" fn screens_move_node(
     let moved = node_move::move_node(rule, x, y, z, t0, t1, t2, matrix, node, px, py, pz);
     *count = moved.count;
     moved.refusal
+}
+
+// The return to the shape of a name, with the count of the renewed cells, 0 on a refusal.
+#[no_mangle]
+pub extern "C" fn screens_return_shape(
+    rule: u32,
+    x: &mut [f64],
+    y: &mut [f64],
+    z: &mut [f64],
+    t0: &[usize],
+    t1: &[usize],
+    t2: &[usize],
+    out: &mut [f64],
+    marks: &[u8],
+    names: &[u8],
+    sx: &[f64],
+    sy: &[f64],
+    sz: &[f64],
+    name: &[u8; 8],
+    count: &mut usize,
+) -> u32
+    ensures { λ r. ⌜ ReturnedBy rule (lentScreen x y z t0 t1 t2 out) (passedStore marks names sx sy sz) (passed name) r (left count) ⌝ }
+{
+    let returned = shape_return::return_shape(
+        rule,
+        x,
+        y,
+        z,
+        t0,
+        t1,
+        t2,
+        out,
+        marks,
+        names,
+        sx,
+        sy,
+        sz,
+        name,
+    );
+    *count = returned.count;
+    returned.refusal
 }

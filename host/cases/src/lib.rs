@@ -3,10 +3,12 @@
 pub mod file;
 mod mesh;
 mod names;
+mod store;
 mod words;
 
 pub use mesh::Mesh;
 pub use names::{NAMES, kind, name};
+pub use store::{Name, Store};
 pub use words::{In, Out};
 
 /// A triangle by its corners.

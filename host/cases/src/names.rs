@@ -1,7 +1,7 @@
 //! The kinds of cases.
 
 /// The names of the kinds: that of kind k stands at k - 1.
-pub const NAMES: [&str; 58] = [
+pub const NAMES: [&str; 61] = [
     "fma",
     "sqrt",
     "ln",
@@ -60,6 +60,9 @@ pub const NAMES: [&str; 58] = [
     "longest_edge",
     "is_far",
     "write_file", // 58
+    "save_shape",
+    "drop_shape",
+    "return_shape", // 61
 ];
 
 /// The name of a kind.

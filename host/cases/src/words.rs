@@ -1,5 +1,5 @@
 //! Reading and collecting words.
-use crate::{Mesh, Triangle, canonical};
+use crate::{Mesh, Name, Store, Triangle, canonical};
 
 /// Reads the words of an input in order.
 pub struct In<'a> {
@@ -66,6 +66,20 @@ impl<'a> In<'a> {
             c: self.sizes(),
         }
     }
+    /// Marks, names and three columns.
+    pub fn store(&mut self) -> Store {
+        Store {
+            marks: self.bytes(),
+            names: self.bytes(),
+            x: self.numbers(),
+            y: self.numbers(),
+            z: self.numbers(),
+        }
+    }
+    /// The name of a shape: eight bytes, the first one lowest.
+    pub fn name(&mut self) -> Name {
+        self.word().to_le_bytes()
+    }
 }
 
 /// Collects words in order: inputs with the bits that they have, results with one NaN.
@@ -122,6 +136,15 @@ impl Out {
     pub fn mesh(self, m: &Mesh) -> Self {
         let nodes = self.numbers(&m.x).numbers(&m.y).numbers(&m.z);
         nodes.sizes(&m.a).sizes(&m.b).sizes(&m.c)
+    }
+    /// Marks, names and three columns.
+    pub fn store(self, s: &Store) -> Self {
+        let bytes = self.bytes(&s.marks).bytes(&s.names);
+        bytes.numbers(&s.x).numbers(&s.y).numbers(&s.z)
+    }
+    /// The name of a shape: eight bytes, the first one lowest.
+    pub fn name(self, name: Name) -> Self {
+        self.word(u64::from_le_bytes(name))
     }
     /// Six columns as results, with no lengths before them.
     pub fn columns(self, m: &Mesh) -> Self {
@@ -188,6 +211,28 @@ mod tests {
             );
             assert_eq!(i.lengths(), [3, 4]);
         }
+    }
+
+    #[test]
+    fn a_store_and_a_name_are_read_as_collected() {
+        let store = Store {
+            marks: vec![0, 1, 7, 255, 0, 0, 0, 1],
+            names: (1..=64).collect(),
+            x: vec![1.0, -0.0],
+            y: vec![],
+            z: vec![3.0],
+        };
+        let words = Out::default().store(&store).name(*b"as cast\0").0;
+        assert_eq!(words[..2], [8, 0x0100_0000_ff07_0100]);
+        assert_eq!(words.last(), Some(&0x0074_7361_6320_7361));
+        let mut i = In::new(&words);
+        let read = i.store();
+        assert_eq!((read.marks, read.names), (store.marks, store.names));
+        assert_eq!(
+            [read.x, read.y, read.z].map(|c| c.map_bits()),
+            [store.x, store.y, store.z].map(|c| c.map_bits())
+        );
+        assert_eq!(&i.name(), b"as cast\0");
     }
 
     #[test]

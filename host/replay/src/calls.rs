@@ -1,6 +1,6 @@
 //! One entry for every kind of case that the crate answers.
-use crate::files;
 use crate::lent::{Lent, counted, written};
+use crate::{files, shapes};
 use cases::{In, Mesh, Out, Triangle};
 use screens::mesh::elements::tri::{mapping, tri3};
 use screens::{QuadratureKind, Refusal, TriangleMeshView, UniformTriangle, math};
@@ -14,7 +14,7 @@ fn lent<const N: usize>(i: &mut In<'_>) -> [Lent<f64>; N] {
 }
 
 /// The rule whose number stands next in the input; a number of more than 32 bits is no rule.
-fn rule(i: &mut In<'_>) -> Result<QuadratureKind, Refusal> {
+pub(crate) fn rule(i: &mut In<'_>) -> Result<QuadratureKind, Refusal> {
     let number = u32::try_from(i.word()).map_err(|_| Refusal::NoSuchChoice)?;
     QuadratureKind::try_from(number)
 }
@@ -226,6 +226,9 @@ pub const CALLS: &[(&str, Call)] = &[
         });
         counted(o, answer.map(|count| [count as u64]), 1, &[&cells, &x, &y, &z])
     }),
+    ("save_shape", shapes::save_shape),
+    ("drop_shape", shapes::drop_shape),
+    ("return_shape", shapes::return_shape),
     // matrices and maps
     ("energy2", |i, o| {
         let (matrix, s, t) = (i.numbers(), i.numbers(), i.numbers());

@@ -1,11 +1,13 @@
 //! What is lent to a call: a buffer filled with a pattern, with pattern words before and behind it that no call may write.
 use cases::Out;
 use screens::Refusal;
+use std::hint::black_box;
 
 const GUARD: usize = 4;
 /// Appended to the results, which then differ from the oracle's: what the call did that it must not do.
 const WROTE_OUTSIDE: u64 = 0x0ff5_1de0_0ff5_1de0;
 const WROTE_ON_REFUSAL: u64 = 0xdead_beef_dead_beef;
+const WROTE_WHAT_IS_READ: u64 = 0x0c0d_e0f0_0c0d_e0f0;
 
 /// A number of 64 bits, or a byte.
 pub(crate) trait Number: Copy {
@@ -84,13 +86,15 @@ impl<T: Number> Lent<T> {
         &mut self.words[GUARD..end]
     }
 
-    /// What a call left.
+    /// What a call left, or is lent to read.
     pub(crate) fn left(&self) -> &[T] {
         &self.words[GUARD..self.words.len() - GUARD]
     }
 
     fn same(&self, mut range: std::ops::Range<usize>) -> bool {
-        range.all(|i| self.words[i].bits() == self.before[i])
+        // the compiler may take for granted that what a call only reads is as it was
+        let words = black_box(&self.words);
+        range.all(|i| words[i].bits() == self.before[i])
     }
 }
 
@@ -110,6 +114,19 @@ impl<T: Number> Buffer for Lent<T> {
     }
     fn untouched(&self) -> bool {
         self.same(0..self.words.len())
+    }
+}
+
+/// Columns, one behind the other.
+impl<T: Number, const N: usize> Buffer for [Lent<T>; N] {
+    fn results(&self, o: Out) -> Out {
+        self.iter().fold(o, |o, column| column.results(o))
+    }
+    fn guards_hold(&self) -> bool {
+        self.iter().all(Buffer::guards_hold)
+    }
+    fn untouched(&self) -> bool {
+        self.iter().all(Buffer::untouched)
     }
 }
 
@@ -142,6 +159,12 @@ pub(crate) fn counted(
         o = o.word(WROTE_OUTSIDE);
     }
     o
+}
+
+/// Appends a word unless every buffer is as it was, guards and all: what a call is lent to read it must not write.
+pub(crate) fn only_read(o: Out, buffers: &[&dyn Buffer]) -> Out {
+    let kept = buffers.iter().all(|buffer| buffer.untouched());
+    if kept { o } else { o.word(WROTE_WHAT_IS_READ) }
 }
 
 #[cfg(test)]
@@ -192,5 +215,41 @@ mod tests {
                 assert_eq!(answer.last(), Some(&WROTE_OUTSIDE));
             }
         }
+    }
+
+    #[test]
+    fn writing_what_is_read_is_seen() {
+        for place in [0, GUARD, GUARD + 2] {
+            let (mut names, mut columns) = (
+                Lent::holding(&[7u8, 8]),
+                [[1.0, 2.0]; 3].map(|column| Lent::holding(&column)),
+            );
+            assert_eq!(only_read(Out::default().word(0), &[&names, &columns]).0, [0]);
+            names.words[place] ^= 1;
+            columns[2].words[place] = -0.5;
+            let touched: [&dyn Buffer; 2] = [&names, &columns];
+            for buffer in touched {
+                assert_eq!(only_read(Out::default().word(0), &[buffer]).0, [0, WROTE_WHAT_IS_READ]);
+            }
+        }
+    }
+
+    #[test]
+    fn columns_are_results_one_behind_the_other() {
+        let mut columns = [1.0, 2.0].map(|x| Lent::holding(&[x]));
+        assert_eq!(
+            written(Out::default(), Ok(()), &[&columns]).0,
+            [0, 1f64.to_bits(), 2f64.to_bits()]
+        );
+        columns[1].lend()[0] = 3.0;
+        assert_eq!(
+            written(Out::default(), Err(Refusal::Output), &[&columns]).0,
+            [6, WROTE_ON_REFUSAL]
+        );
+        columns[0].words[0] = 0.0;
+        assert_eq!(
+            written(Out::default(), Ok(()), &[&columns]).0.last(),
+            Some(&WROTE_OUTSIDE)
+        );
     }
 }

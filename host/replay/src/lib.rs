@@ -4,6 +4,7 @@
 mod calls;
 mod files;
 mod lent;
+mod shapes;
 
 pub use calls::{CALLS, Call};
 use cases::{In, Out};

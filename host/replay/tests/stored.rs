@@ -64,10 +64,11 @@ fn replay() {
 
 /// The files of the stored sample, one for each program that replays it in Rattle and one with what is too large for these,
 /// and the kind of each file's wrong case.
-const FILES: [(&str, &str); 4] = [
+const FILES: [(&str, &str); 5] = [
     ("calls", "gradient"),
     ("meshes", "densities"),
     ("matrices", "matrix"),
+    ("shapes", "return_shape"),
     ("large", "move"),
 ];
 

@@ -66,6 +66,11 @@ impl Drop for Output {
     }
 }
 
+/// Whether files of two names go to one place.
+pub(crate) fn same_place(a: &Path, b: &Path) -> bool {
+    place(a).is_ok_and(|a| place(b).is_ok_and(|b| a == b))
+}
+
 /// Where a file of that name goes: behind symbolic links, and never in the place of what is no ordinary file or is not to be
 /// written.
 fn place(path: &Path) -> io::Result<PathBuf> {

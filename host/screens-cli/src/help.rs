@@ -14,6 +14,11 @@ usage: screens COMMAND ...
   energy MATRIX.npy --ring FILE | --values FILE  the energy of nodal values
   move FILE MATRIX.npy --node K --to X Y Z --rule N -o OUT.npy
                                                  moves a node and renews the matrix
+  save FILE STORE --name NAME                    saves the shape of a screen under a name
+  shapes STORE                                   lists the shapes that a store holds
+  return FILE STORE MATRIX.npy --name NAME --rule N -o OUT.npy
+                                                 returns to a saved shape and renews the matrix
+  drop FILE STORE --name NAME                    drops a saved shape
   density FILE                                   the current density on each panel
   plot FILE -o OUT.svg                           draws the panels
 
@@ -26,7 +31,8 @@ For example, from the repository's folder:
   screens plot examples/plate.pnl -o plate.svg
 
 FILE is a panel file, NODES and PANELS are rows of three numbers (NumPy or text), MATRIX.npy is a NumPy file (float64, n rows
-of n). Units are metres, amperes and henries; nodes and panels are counted from 0. `screens help COMMAND` says more about one.
+of n), STORE holds up to eight shapes of a screen. Units are metres, amperes and henries; nodes, panels and places are counted
+from 0. `screens help COMMAND` says more about one.
 
 Exit status: 0 done; 1 refused, with the number and the word of the README's table; 2 bad usage, or a file that cannot be read
 or written. An output file is there whole or not at all.

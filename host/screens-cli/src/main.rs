@@ -1,4 +1,4 @@
-//! The tool `screens`: checks and writes panel files, computes, moves and shows their inductance matrices.
+//! The tool `screens`: checks and writes panel files, computes, moves and shows their inductance matrices, keeps shapes by name.
 //!
 //! Exit status: 0 done, 1 refused (the message has document 01's number and word), 2 bad usage or trouble with a file.
 mod args;
@@ -8,8 +8,10 @@ mod files;
 mod help;
 mod npy;
 mod numbers;
+mod outputs;
 mod panels;
 mod rows;
+mod store;
 mod svg;
 mod values;
 

@@ -1,6 +1,6 @@
 //! Bad input gives a clear message and loses nothing: no file of the folder is changed, and none is left over.
 mod common;
-use common::{Folder, npy, npy_of, npy_whole, square_file};
+use common::{Folder, npy, npy_of, npy_whole, place, square_file, square_places, store};
 use std::ffi::OsStr;
 use std::fs::{File, Permissions};
 use std::os::unix::ffi::OsStrExt;
@@ -29,13 +29,37 @@ fn refused_by_all(folder: &Folder, file: &str, status: i32, said: &str) {
         "density FILE --values values.txt",
         "plot FILE -o new.svg",
         "write FILE -o square.pnl",
+        "save FILE square.shapes --name as-cast",
+        "save FILE new.shapes --name as-cast",
+        "drop FILE square.shapes --name as-cast",
+        "return FILE square.shapes square.npy --name raised --rule 3 -o square.npy --mesh-out square.pnl",
     ] {
-        let words: Vec<&str> = line
-            .split(' ')
-            .map(|word| if word == "FILE" { file } else { word })
-            .collect();
-        refused(folder, status, &words, said);
+        refused_with(folder, "FILE", file, line, status, said);
     }
+}
+
+/// The same for a line with a name in the place of a word.
+fn refused_with(folder: &Folder, word: &str, name: &str, line: &str, status: i32, said: &str) {
+    let words: Vec<&str> = line
+        .split(' ')
+        .map(|given| if given == word { name } else { given })
+        .collect();
+    refused(folder, status, &words, said);
+}
+
+/// The same for every command that reads a store by that name together with a panel file.
+fn store_refused(folder: &Folder, file: &str, status: i32, said: &str) {
+    for line in [
+        "save square.pnl STORE --name as-cast",
+        "drop square.pnl STORE --name as-cast",
+        "return square.pnl STORE square.npy --name as-cast --rule 3 -o new.npy --mesh-out new.pnl",
+    ] {
+        refused_with(folder, "STORE", file, line, status, said);
+    }
+}
+
+fn shapes_refused(folder: &Folder, file: &str, said: &str) {
+    refused(folder, 2, &["shapes", file], said);
 }
 
 /// The same for nodes and panels of two files.
@@ -63,6 +87,8 @@ fn matrix_refused(folder: &Folder, file: &str, status: i32, said: &str) {
         "square.npy",
     ];
     refused(folder, status, &words, said);
+    let line = "return square.pnl square.shapes MATRIX --name raised --rule 3 -o square.npy --mesh-out square.pnl";
+    refused_with(folder, "MATRIX", file, line, status, said);
 }
 
 /// A file of a gigabyte that begins with some bytes; it takes no room on the disk.
@@ -93,6 +119,180 @@ fn missing_file() {
     refused_by_all(&folder, ".", 2, ".: Is a directory");
     matrix_refused(&folder, ".", 2, ".: Is a directory");
     refused(&folder, 2, &["check", ""], "No such file");
+    // a store that is not there is made by `save` alone
+    for line in [
+        "shapes none.shapes",
+        "drop square.pnl none.shapes --name a",
+        "return square.pnl none.shapes square.npy --name a --rule 3 -o square.npy",
+    ] {
+        let words: Vec<&str> = line.split(' ').collect();
+        refused(&folder, 2, &words, "none.shapes: No such file");
+    }
+    store_refused(&folder, ".", 2, ".: Is a directory");
+    shapes_refused(&folder, ".", ".: Is a directory");
+}
+
+#[test]
+fn store_of_another_length() {
+    let folder = Folder::new("store-length");
+    let file = folder.get("square.shapes");
+    let longer = [&file[..], &file].concat();
+    for length in [0, 7, 8, 71, 72, 73, 264, 648, 839, 841, 1031, 1032, 1680] {
+        folder.put("cut.shapes", &longer[..length]);
+        store_refused(
+            &folder,
+            "cut.shapes",
+            1,
+            "cut.shapes: not the 840 bytes of a store for 4 nodes: refused, number 6 (output)",
+        );
+        if [72, 264, 648, 1032].contains(&length) {
+            assert_eq!(folder.run(&["shapes", "cut.shapes"]).status, Some(0), "{length}");
+        } else {
+            shapes_refused(
+                &folder,
+                "cut.shapes",
+                "cut.shapes: not a store of shapes: its length is not 72 + 192n bytes",
+            );
+        }
+    }
+    // of other sorts
+    for name in ["square.pnl", "square.npy", "values.txt", "plate.pnl"] {
+        store_refused(&folder, name, 1, "number 6 (output)");
+        shapes_refused(&folder, name, "not a store of shapes");
+    }
+    // a whole store of another screen, and one node more than the most
+    for name in ["plate.pnl", "hole.pnl"] {
+        let words = ["save", name, "square.shapes", "--name", "as-cast"];
+        refused(&folder, 1, &words, "square.shapes: not the 5");
+    }
+    folder.put("large.shapes", &vec![0; 72 + 192 * 4096]);
+    assert_eq!(folder.run(&["shapes", "large.shapes"]).status, Some(0));
+    folder.put("large.shapes", &vec![0; 72 + 192 * 4097]);
+    shapes_refused(&folder, "large.shapes", "for any n up to 4096 nodes");
+    store_refused(&folder, "large.shapes", 1, "number 6 (output)");
+}
+
+#[test]
+fn name_that_is_none() {
+    let folder = Folder::new("name");
+    for (name, said) in [
+        ("", "--name: a name has one to eight bytes, and \"\" has 0"),
+        (
+            "as-welded",
+            "--name: a name has one to eight bytes, and \"as-welded\" has 9",
+        ),
+        ("kühlkörp", "\"kühlkörp\" has 10"),
+        ("--name", "--name takes 1 word"),
+    ] {
+        for line in [
+            "save square.pnl square.shapes --name NAME",
+            "save square.pnl new.shapes --name NAME",
+            "drop square.pnl square.shapes --name NAME",
+            "return square.pnl square.shapes square.npy --name NAME --rule 3 -o square.npy",
+        ] {
+            refused_with(&folder, "NAME", name, line, 2, said);
+        }
+    }
+}
+
+#[test]
+fn store_without_the_name_or_a_place() {
+    let folder = Folder::new("unknown");
+    // a stale name, and names that are nearly held
+    for name in ["stale", "as-cas", "as-cast ", "AS-CAST"] {
+        let mut places = square_places();
+        places[3] = place(0, b"stale\0\0\0", 0.0);
+        folder.put("square.shapes", &store(&places));
+        for line in [
+            "drop square.pnl square.shapes --name NAME",
+            "return square.pnl square.shapes square.npy --name NAME --rule 3 -o square.npy --mesh-out square.pnl",
+        ] {
+            refused_with(&folder, "NAME", name, line, 1, "refused, number 17 (unknown name)");
+        }
+    }
+    let full: [_; 8] = std::array::from_fn(|k| place(1 + 36 * k as u8, &[b'a' + k as u8; 8], 0.0));
+    folder.put("square.shapes", &store(&full));
+    let words = ["save", "square.pnl", "square.shapes", "--name", "a"];
+    refused(
+        &folder,
+        1,
+        &words,
+        "square.pnl: save as \"a\": refused, number 18 (no place)",
+    );
+}
+
+#[test]
+fn shape_that_is_no_mesh() {
+    let folder = Folder::new("flat");
+    let mut places = square_places();
+    // node 3 on node 1
+    places[2].2[1][3] = 0.0;
+    places[2].2[2][3] = 0.0;
+    folder.put("square.shapes", &store(&places));
+    let line = "return square.pnl square.shapes square.npy --name raised --rule 3 -o square.npy --mesh-out square.pnl";
+    let words: Vec<&str> = line.split(' ').collect();
+    refused(
+        &folder,
+        1,
+        &words,
+        "square.pnl: return to \"raised\": refused, number 4 (zero area)",
+    );
+}
+
+#[test]
+fn store_that_cannot_be_written() {
+    let folder = Folder::new("unwritable-store");
+    std::fs::create_dir(folder.0.join("taken")).unwrap();
+    for (out, status, said) in [
+        ("none/new", 2, "none/new: No such file"),
+        ("values.txt/new", 2, "values.txt/new: Not a directory"),
+        ("taken", 2, "taken: Is a directory"),
+        ("/dev/null", 1, "/dev/null: not the 840 bytes"),
+        ("", 2, "not a name for a file"),
+    ] {
+        refused_with(&folder, "STORE", out, "save square.pnl STORE --name a", status, said);
+    }
+    let kept = folder.0.join("square.shapes");
+    std::fs::set_permissions(&kept, Permissions::from_mode(0o444)).unwrap();
+    for line in [
+        "save square.pnl square.shapes --name a",
+        "drop square.pnl square.shapes --name raised",
+    ] {
+        let words: Vec<&str> = line.split(' ').collect();
+        refused(&folder, 2, &words, "square.shapes: the file is not to be written");
+    }
+}
+
+#[test]
+fn outputs_of_a_return_that_cannot_be_written() {
+    let folder = Folder::new("unwritable-return");
+    std::fs::create_dir(folder.0.join("taken")).unwrap();
+    std::os::unix::fs::symlink("square.shapes", folder.0.join("link")).unwrap();
+    let line = "return square.pnl square.shapes square.npy --name raised --rule 3";
+    for (out, said) in [
+        ("none/out", "none/out: No such file"),
+        (
+            "taken",
+            "taken: there is something by that name that is no ordinary file",
+        ),
+        ("square.shapes", "and STORE name the same file"),
+        ("taken/../square.shapes", "and STORE name the same file"),
+        ("link", "and STORE name the same file"),
+    ] {
+        let matrix = format!("{line} -o OUT --mesh-out square.pnl");
+        refused_with(&folder, "OUT", out, &matrix, 2, said);
+        let mesh = format!("{line} -o square.npy --mesh-out OUT");
+        refused_with(&folder, "OUT", out, &mesh, 2, said);
+    }
+    let both = format!("{line} -o square.npy --mesh-out OUT");
+    refused_with(
+        &folder,
+        "OUT",
+        "taken/../square.npy",
+        &both,
+        2,
+        "-o and --mesh-out name the same file",
+    );
 }
 
 #[test]
@@ -391,6 +591,9 @@ fn wrong_rule() {
             "square.npy",
         ];
         refused(&folder, status, &words, said);
+        // before the store and the matrix are looked at
+        let line = "return square.pnl values.txt values.txt --name raised --rule RULE -o square.npy";
+        refused_with(&folder, "RULE", rule, line, status, said);
     }
 }
 
@@ -450,6 +653,15 @@ fn matrix_of_another_size() {
         1,
         &words,
         "plate.pnl: move of node 0: refused, number 6 (output)",
+    );
+    folder.put("nine.npy", &npy("(3, 3)", &[0.0; 9]));
+    let line = "return square.pnl square.shapes nine.npy --name raised --rule 3 -o square.npy --mesh-out square.pnl";
+    let words: Vec<&str> = line.split(' ').collect();
+    refused(
+        &folder,
+        1,
+        &words,
+        "square.pnl: return to \"raised\": refused, number 6 (output)",
     );
     refused(
         &folder,
@@ -607,6 +819,14 @@ fn file_of_a_gigabyte() {
     rows_refused(&folder, "rows", "panels.txt", 2, "something stands behind its numbers");
     gigabyte(&folder, "rows", &npy_whole("(44739242, 3)", &[]));
     rows_refused(&folder, "nodes.txt", "rows", 1, "rows: refused, number 11 (too large)");
+    gigabyte(&folder, "store", &folder.get("square.shapes"));
+    store_refused(
+        &folder,
+        "store",
+        1,
+        "store: not the 840 bytes of a store for 4 nodes: refused, number 6",
+    );
+    shapes_refused(&folder, "store", "store: not a store of shapes");
 }
 
 #[test]
@@ -621,6 +841,8 @@ fn file_without_end() {
         "too long for nodal values",
     );
     rows_refused(&folder, "/dev/zero", "panels.txt", 2, "/dev/zero: too long for nodes");
+    store_refused(&folder, "/dev/zero", 1, "number 6 (output)");
+    shapes_refused(&folder, "/dev/zero", "/dev/zero: not a store of shapes");
 }
 
 #[test]
@@ -678,6 +900,9 @@ fn any_bytes_at_all() {
             vec!["write", "any", "-o", "any.pnl"],
             vec!["write", "any", "panels.txt", "-o", "any.pnl"],
             vec!["write", "nodes.txt", "any", "-o", "any.pnl"],
+            vec!["shapes", "any"],
+            vec!["save", "square.pnl", "any", "--name", "a"],
+            vec!["drop", "any", "any", "--name", "a"],
         ] {
             let ran = folder.run(&words);
             assert!(matches!(ran.status, Some(0..=2)), "{words:?} {ran:?}");

@@ -1,7 +1,9 @@
-//! What the tool writes: matrices as NumPy reads them, panel files byte by byte, pictures, and pipes that close early.
+//! What the tool writes: matrices as NumPy reads them, panel files and stores byte by byte, pictures, and pipes that close early.
 mod common;
-use common::{Folder, npy, npy_whole, square, square_file};
+use common::{FREE, Folder, npy, npy_whole, place, raised, square, square_file, square_places, store};
 use screens::{QuadratureKind, TriangleMesh, triangle_mesh_inductance_matrix};
+use std::ffi::OsStr;
+use std::os::unix::ffi::OsStrExt;
 use std::path::Path;
 use std::process::Stdio;
 
@@ -111,6 +113,179 @@ fn a_move_notes_cells_that_differ_from_their_mirror() {
     let refused = folder.run(&line.replace("--node 3", "--node 4").split(' ').collect::<Vec<_>>());
     assert_eq!(refused.status, Some(1));
     assert!(!refused.err.contains("note"), "{}", refused.err);
+}
+
+#[test]
+fn a_return_notes_cells_that_differ_from_their_mirror() {
+    let folder = Folder::new("return-mirror");
+    let counted: Vec<f64> = (0..16).map(f64::from).collect();
+    folder.put("given.npy", &npy("(4, 4)", &counted));
+    let line = "return square.pnl square.shapes given.npy --name raised --rule 3 -o out.npy";
+    let ran = folder.run(&line.split(' ').collect::<Vec<_>>());
+    let note = "note: 6 cells below the diagonal differ from their mirror; compute the matrix anew\n";
+    assert_eq!((ran.status, &*ran.err), (Some(0), note));
+    // of any numbers cell (0, 0) alone is kept: every other is of a node of the raised panel
+    let mut due = matrix_of(&raised(), QuadratureKind::Dunavant3);
+    due[0] = counted[0];
+    assert_eq!(folder.get("out.npy"), npy("(4, 4)", &due));
+    assert!(
+        ran.out.ends_with("\n15 of 16 cells renewed\nwrote out.npy\n"),
+        "{}",
+        ran.out
+    );
+}
+
+fn matrix_of(mesh: &TriangleMesh, rule: QuadratureKind) -> Vec<f64> {
+    let mut matrix = vec![0.0; mesh.view().nnode().pow(2)];
+    triangle_mesh_inductance_matrix(&mesh.view(), rule, &mut matrix).unwrap();
+    matrix
+}
+
+#[test]
+fn a_store_byte_by_byte() {
+    let folder = Folder::new("store");
+    folder.put("raised.pnl", &raised().to_panel_file());
+    let mut places = [FREE; 8];
+    for (k, name) in ["as-cast", "2", "3", "4", "5", "6", "7", "as drawn"]
+        .into_iter()
+        .enumerate()
+    {
+        let mut bytes = [0; 8];
+        bytes[..name.len()].copy_from_slice(name.as_bytes());
+        places[k] = place(1, &bytes, 0.0);
+        let ran = folder.run(&["save", "square.pnl", "new.shapes", "--name", name]);
+        assert_eq!((ran.status, &*ran.err), (Some(0), ""));
+        assert_eq!(folder.get("new.shapes"), store(&places), "{name}");
+    }
+    assert_eq!(folder.get("new.shapes").len(), 72 + 192 * 4);
+    // a held name in a store without a free place
+    places[4] = place(1, b"5\0\0\0\0\0\0\0", 0.5);
+    done(&folder, "save raised.pnl new.shapes --name 5");
+    assert_eq!(folder.get("new.shapes"), store(&places));
+    // a dropped place keeps its name and its numbers
+    places[2].0 = 0;
+    done(&folder, "drop square.pnl new.shapes --name 3");
+    assert_eq!(folder.get("new.shapes"), store(&places));
+    // the first free place, past a stale name, and a mark that stays
+    let mut places = square_places();
+    places[1] = place(1, b"new\0\0\0\0\0", 0.5);
+    done(&folder, "save raised.pnl square.shapes --name new");
+    assert_eq!(folder.get("square.shapes"), store(&places));
+    places[2] = place(7, b"raised\0\0", 0.0);
+    done(&folder, "save square.pnl square.shapes --name raised");
+    assert_eq!(folder.get("square.shapes"), store(&places));
+}
+
+#[test]
+fn a_return_writes_the_named_shape() {
+    let folder = Folder::new("return");
+    let kept = folder.get("square.shapes");
+    let line = "return square.pnl square.shapes square.npy --name raised --rule 3 -o";
+    let due = npy("(4, 4)", &matrix_of(&raised(), QuadratureKind::Dunavant3));
+    done(&folder, &format!("{line} out.npy"));
+    assert_eq!(folder.get("out.npy"), due);
+    assert_eq!(folder.get("square.pnl"), square_file());
+    let (first, before) = (folder.get("square.npy"), folder.contents().len());
+    done(&folder, &format!("{line} square.npy --mesh-out square.pnl"));
+    assert_eq!(folder.get("square.npy"), due);
+    assert_eq!(folder.get("square.pnl"), raised().to_panel_file());
+    done(
+        &folder,
+        &line
+            .replace("raised", "as-cast")
+            .replace(" -o", " -o square.npy --mesh-out square.pnl"),
+    );
+    assert_eq!(
+        (folder.get("square.npy"), folder.get("square.pnl")),
+        (first, square_file())
+    );
+    assert_eq!((folder.get("square.shapes"), folder.contents().len()), (kept, before));
+}
+
+#[test]
+fn a_run_of_moves_is_taken_back() {
+    let folder = Folder::new("taken-back");
+    done(&folder, "matrix hole.pnl --rule 2 -o hole.npy");
+    let (mesh, matrix) = (folder.get("hole.pnl"), folder.get("hole.npy"));
+    done(&folder, "save hole.pnl hole.shapes --name as-cast");
+    for (node, place) in [(0, "-0.1 0 0.1"), (77, "0.5 0.3 0.01"), (263, "1 1.1 -0.2")] {
+        let line =
+            format!("move hole.pnl hole.npy --node {node} --to {place} --rule 2 -o hole.npy --mesh-out hole.pnl");
+        done(&folder, &line);
+    }
+    assert!(folder.get("hole.pnl") != mesh && folder.get("hole.npy") != matrix);
+    done(
+        &folder,
+        "return hole.pnl hole.shapes hole.npy --name as-cast --rule 2 -o hole.npy --mesh-out hole.pnl",
+    );
+    assert!(folder.get("hole.pnl") == mesh && folder.get("hole.npy") == matrix);
+}
+
+#[test]
+fn names_of_any_bytes() {
+    let folder = Folder::new("names");
+    let names: [(&[u8], &str); 5] = [
+        (b"as cast", "as cast"),
+        (b"end ", "end\\x20"),
+        (b"\xff\xfe\n", "\\xff\\xfe\\n"),
+        (b"--rule", "--rule"),
+        (b"gek\xc3\xbchlt", "gekühlt"),
+    ];
+    let mut due = String::new();
+    for (place, (name, shown)) in names.into_iter().enumerate() {
+        let words = ["save", "square.pnl", "new.shapes", "--name"].map(OsStr::new);
+        let ran = folder.run(&[&words[..], &[OsStr::from_bytes(name)]].concat());
+        assert_eq!((ran.status, &*ran.err), (Some(0), ""));
+        assert!(
+            ran.out.contains(&format!("\"{shown}\", place {place}\n")),
+            "{}",
+            ran.out
+        );
+        due += &format!("{place} 1 {shown}\n");
+    }
+    assert_eq!(done(&folder, "shapes new.shapes"), due);
+    let places: [_; 8] = std::array::from_fn(|k| place(k as u8 * 36, &[0, b'\\', b'"', 0, k as u8, 0, 0, 0], 0.0));
+    folder.put("new.shapes", &store(&places));
+    let due: String = (1..8)
+        .map(|k| format!("{k} {} \\0\\\\\\\"\\0\\u{{{k}}}\n", 36 * k))
+        .collect();
+    assert_eq!(done(&folder, "shapes new.shapes"), due);
+}
+
+#[test]
+fn stores_of_the_least_and_the_most_nodes() {
+    let folder = Folder::new("stores");
+    folder.put("empty.pnl", b"PNL\x01\x00\x00\x00\x00\x00");
+    folder.put("empty.npy", &npy("(0, 0)", &[]));
+    done(&folder, "save empty.pnl empty.shapes --name as-cast");
+    assert_eq!(
+        folder.get("empty.shapes"),
+        [&[1, 0, 0, 0, 0, 0, 0, 0][..], b"as-cast\0", &[0; 56]].concat()
+    );
+    let said = done(
+        &folder,
+        "return empty.pnl empty.shapes empty.npy --name as-cast --rule 1 -o out.npy --mesh-out out.pnl",
+    );
+    assert!(said.contains("\n0 of 0 cells renewed\n"), "{said}");
+    assert_eq!(
+        (folder.get("out.npy"), folder.get("out.pnl").len()),
+        (npy("(0, 0)", &[]), 9)
+    );
+    done(&folder, "drop empty.pnl empty.shapes --name as-cast");
+    assert_eq!(done(&folder, "shapes empty.shapes"), "empty.shapes: no place is held\n");
+
+    let (nodes, _, file) = strip(4096, 8192);
+    folder.put("strip.pnl", &file);
+    done(&folder, "save strip.pnl strip.shapes --name as-cast");
+    let saved = folder.get("strip.shapes");
+    assert_eq!(saved.len(), 72 + 192 * 4096);
+    // the last node's x, y and z in place 0 of each column
+    for axis in 0..3 {
+        let at = 72 + 8 * (8 * 4096 * axis + 4095);
+        assert_eq!(saved[at..][..8], nodes[3 * 4095 + axis].to_le_bytes());
+    }
+    assert_eq!(done(&folder, "shapes strip.shapes"), "0 1 as-cast\n");
+    done(&folder, "drop strip.pnl strip.shapes --name as-cast");
 }
 
 /// A strip of so many nodes with a panel for every three in a row, as many as are asked for: rows of both, and the panel file.
@@ -296,6 +471,11 @@ fn links_are_followed_and_nothing_is_left_over() {
             .is_symlink()
     );
     assert_eq!(std::fs::read_dir(folder.0.join("store")).unwrap().count(), 1);
+    std::fs::rename(folder.0.join("square.shapes"), folder.0.join("store/kept.shapes")).unwrap();
+    std::os::unix::fs::symlink("store/kept.shapes", folder.0.join("link.shapes")).unwrap();
+    done(&folder, "drop square.pnl link.shapes --name as-cast");
+    assert_eq!(folder.get("store/kept.shapes")[..8], [0, 0, 7, 0, 0, 0, 0, 0]);
+    assert_eq!(std::fs::read_dir(folder.0.join("store")).unwrap().count(), 2);
 }
 
 #[test]

@@ -69,6 +69,11 @@ fn usage() {
 }
 
 #[test]
+fn named_shapes() {
+    session("shapes");
+}
+
+#[test]
 fn strange_screen() {
     session("strange");
 }

@@ -13,7 +13,7 @@ const SMALLEST: usize = 4;
 /// A call with what it is lent, ready to run.
 type Work = Box<dyn FnOnce() + Send>;
 #[allow(clippy::type_complexity)]
-const CALLS: [(&str, fn() -> Work); 7] = [
+const CALLS: [(&str, fn() -> Work); 10] = [
     ("mesh test, 4,096 nodes, 7,938 panels", || {
         let mesh = plate(64, 64);
         Box::new(move || assert!(TriangleMeshView::new(mesh.view().nodes(), mesh.view().triangles()).is_ok()))
@@ -39,6 +39,23 @@ const CALLS: [(&str, fn() -> Work); 7] = [
         let rule = QuadratureKind::Dunavant1;
         Box::new(move || assert!(mesh.move_node(rule, &mut matrix, 0, [-0.5, -0.5, 0.5]).is_ok()))
     }),
+    ("save of a shape, 4,096 nodes", || {
+        let (mesh, mut shapes) = (plate(64, 64), Shapes::new(4096));
+        Box::new(move || assert!(shapes.save(&mesh, b"as cast\0").is_ok()))
+    }),
+    ("return to a shape, 300 nodes, rule 5, all nodes differ", || {
+        let (mut mesh, raised, mut matrix) = (plate(20, 15), plate_at(20, 15, 1.0), vec![1.0; 300 * 300]);
+        let mut shapes = Shapes::new(300);
+        shapes.save(&raised, b"as cast\0").unwrap();
+        Box::new(move || assert!(mesh.return_to(&shapes, b"as cast\0", RULE, &mut matrix).is_ok()))
+    }),
+    ("return to a shape, 4,096 nodes, rule 1, one node differs", || {
+        let (mut mesh, mut shapes, mut matrix) = (plate(64, 64), Shapes::new(4096), vec![1.0; 4096 * 4096]);
+        let rule = QuadratureKind::Dunavant1;
+        shapes.save(&mesh, b"as cast\0").unwrap();
+        mesh.move_node(rule, &mut matrix, 0, [-0.5, -0.5, 0.5]).unwrap();
+        Box::new(move || assert!(mesh.return_to(&shapes, b"as cast\0", rule, &mut matrix).is_ok()))
+    }),
     ("energy, 300 nodes", || {
         let (matrix, values) = (vec![1.0; 300 * 300], vec![1.0; 300]);
         Box::new(move || assert!(triangle_mesh_inductive_energy(&matrix, &values).is_ok()))
@@ -47,6 +64,11 @@ const CALLS: [(&str, fn() -> Work); 7] = [
 
 /// A flat plate of so many nodes by so many.
 fn plate(width: usize, height: usize) -> TriangleMesh {
+    plate_at(width, height, 0.0)
+}
+
+/// The same at a height over the ground.
+fn plate_at(width: usize, height: usize, z: f64) -> TriangleMesh {
     let places = || (0..height).flat_map(|j| (0..width).map(move |i| (i as f64, j as f64)));
     let corners = (0..height - 1).flat_map(|j| (0..width - 1).map(move |i| j * width + i));
     let panels: Vec<[usize; 3]> = corners
@@ -56,7 +78,7 @@ fn plate(width: usize, height: usize) -> TriangleMesh {
     let nodes = (
         places().map(|p| p.0).collect(),
         places().map(|p| p.1).collect(),
-        vec![0.0; width * height],
+        vec![z; width * height],
     );
     TriangleMesh::new(nodes, (column(0), column(1), column(2))).unwrap()
 }

@@ -9,7 +9,7 @@
 //! | `vector`, `triangle` | a pointer to three or nine `double` |
 //! | `choice`, `size` | a `uint32_t`, a `size_t` |
 //! | `&[T]`, `&mut [T]` | a pointer and a length |
-//! | `&mut [T; N]`, `&mut T` | a pointer to N numbers, to one |
+//! | `&[T; N]`, `&mut [T; N]`, `&mut T` | a pointer to N elements, to one |
 
 // The library's `usize` has 64 bits.
 const _: () = assert!(size_of::<usize>() == 8);
@@ -44,6 +44,9 @@ macro_rules! bind {
     };
     (@ $n:ident $s:ident $r:ty; [$($safe:tt)*] [$($raw:tt)*] [$($arg:tt)*] $p:ident: triangle $(, $($rest:tt)*)?) => {
         bind!(@ $n $s $r; [$($safe)* $p: [[f64; 3]; 3],] [$($raw)* _: &[[f64; 3]; 3],] [$($arg)* &$p,] $($($rest)*)?);
+    };
+    (@ $n:ident $s:ident $r:ty; [$($safe:tt)*] [$($raw:tt)*] [$($arg:tt)*] $p:ident: &[$t:ty; $k:literal] $(, $($rest:tt)*)?) => {
+        bind!(@ $n $s $r; [$($safe)* $p: &[$t; $k],] [$($raw)* _: &[$t; $k],] [$($arg)* $p,] $($($rest)*)?);
     };
     (@ $n:ident $s:ident $r:ty; [$($safe:tt)*] [$($raw:tt)*] [$($arg:tt)*] $p:ident: &mut [$t:ty; $k:literal] $(, $($rest:tt)*)?) => {
         bind!(@ $n $s $r; [$($safe)* $p: &mut [$t; $k],] [$($raw)* _: &mut [$t; $k],] [$($arg)* $p,] $($($rest)*)?);
@@ -134,6 +137,16 @@ bind! {
     move_node = screens_move_node(
         rule: choice, x: &mut [f64], y: &mut [f64], z: &mut [f64], t0: &[usize], t1: &[usize], t2: &[usize],
         matrix: &mut [f64], node: size, px: number, py: number, pz: number, count: &mut usize) -> u32;
+    save_shape = screens_save_shape(
+        x: &[f64], y: &[f64], z: &[f64], t0: &[usize], t1: &[usize], t2: &[usize],
+        marks: &mut [u8], names: &mut [u8], sx: &mut [f64], sy: &mut [f64], sz: &mut [f64], name: &[u8; 8]) -> u32;
+    drop_shape = screens_drop_shape(
+        x: &[f64], y: &[f64], z: &[f64], t0: &[usize], t1: &[usize], t2: &[usize],
+        marks: &mut [u8], names: &[u8], sx: &[f64], sy: &[f64], sz: &[f64], name: &[u8; 8]) -> u32;
+    return_shape = screens_return_shape(
+        rule: choice, x: &mut [f64], y: &mut [f64], z: &mut [f64], t0: &[usize], t1: &[usize], t2: &[usize],
+        matrix: &mut [f64], marks: &[u8], names: &[u8], sx: &[f64], sy: &[f64], sz: &[f64], name: &[u8; 8],
+        count: &mut usize) -> u32;
     mesh_inductance_from_potentials = screens_mesh_inductance_from_potentials(
         matrix: &[f64], s: &[f64], t: &[f64], value: &mut f64) -> u32;
     mesh_inductive_energy = screens_mesh_inductive_energy(matrix: &[f64], s: &[f64], value: &mut f64) -> u32;

@@ -29,8 +29,8 @@
 //! - The warning about poor panels is a count, [`TriangleMeshView::poor_panels`].
 //! - Below its diagonal the matrix is a copy of what stands above; the original's cells (a, b) and (b, a) can part in their last
 //!   bits.
-//! - Added: [`move_node`], the rows, the panel file ([`read_panel_file`], [`write_panel_file`]), [`display`], and the owned
-//!   [`TriangleMesh`].
+//! - Added: [`move_node`], named shapes ([`save_shape`], [`drop_shape`], [`return_shape`]), the rows, the panel file
+//!   ([`read_panel_file`], [`write_panel_file`]), [`display`], and the owned [`TriangleMesh`] and [`Shapes`].
 //!
 //! # Stack
 //!
@@ -45,7 +45,8 @@ pub mod mesh;
 pub mod physics;
 
 pub use mesh::{
-    TriangleMesh, TriangleMeshView, panel_file_counts, panel_file_length, read_panel_file, write_panel_file,
+    Shapes, TriangleMesh, TriangleMeshView, panel_file_counts, panel_file_length, read_panel_file, shape_name,
+    write_panel_file,
 };
 pub use physics::boundary_element::*;
 pub use refusal::Refusal;

@@ -40,7 +40,7 @@ pub enum Refusal {
     ZeroArea = 4,
     /// 5: nodal lengths differ from the node count or from each other.
     NodalValues = 5,
-    /// 6: an output's length is not the one due (also that of a matrix to be moved).
+    /// 6: an output's length is not the one due (also that of a store of shapes, or of a matrix to be moved).
     Output = 6,
     /// 7: the length of a given matrix is not n × n.
     Matrix = 7,
@@ -62,13 +62,17 @@ pub enum Refusal {
     FileLength = 15,
     /// 16: a value to be shown is not finite, or its rounded size is above 10^15 nanohenries.
     Display = 16,
+    /// 17: no held place of the store of shapes has the name.
+    UnknownName = 17,
+    /// 18: the name is new, and all eight places of the store of shapes are held.
+    NoPlace = 18,
 }
 
 use Refusal::*;
 
 impl Refusal {
     /// Every refusal, in the order of its number.
-    pub const ALL: [Refusal; 16] = [
+    pub const ALL: [Refusal; 18] = [
         NodeColumns,
         PanelColumns,
         MissingNode,
@@ -85,14 +89,16 @@ impl Refusal {
         Mark,
         FileLength,
         Display,
+        UnknownName,
+        NoPlace,
     ];
 
-    /// The refusal of a number from 1 to 16.
+    /// The refusal of a number from 1 to 18.
     pub fn from_number(number: u32) -> Option<Refusal> {
         Refusal::ALL.into_iter().find(|refusal| refusal.number() == number)
     }
 
-    /// Document 01's number, from 1 to 16.
+    /// Document 01's number, from 1 to 18.
     pub fn number(self) -> u32 {
         self as u32
     }
@@ -116,6 +122,8 @@ impl Refusal {
             Mark => "mark",
             FileLength => "file length",
             Display => "display",
+            UnknownName => "unknown name",
+            NoPlace => "no place",
         }
     }
 
@@ -132,8 +140,8 @@ impl Refusal {
                 "there must be one nodal value a node, and as many source as target values; look at the lengths"
             }
             Output => {
-                "a buffer to be written does not have the length due; n nodes need a matrix of n × n cells, with p panels a file \
-                 of 9 + 24n + 6p bytes"
+                "a buffer does not have the length due; n nodes need a matrix of n × n cells and a store of 8 marks, 64 bytes of \
+                 names and three columns of 8n numbers, with p panels a file of 9 + 24n + 6p bytes"
             }
             Matrix => {
                 "the matrix does not have n × n cells for n nodal values or nodes; look whether it is of another mesh"
@@ -154,6 +162,10 @@ impl Refusal {
             }
             Display => {
                 "a value is not finite or above a million henries, and has no display in whole nanohenries; look at the panels it comes from"
+            }
+            UnknownName => "no held place of the store has that name; look at the names that it holds",
+            NoPlace => {
+                "all eight places of the store are held, and none by that name; drop a shape first, or save under a held name"
             }
         }
     }
@@ -205,18 +217,18 @@ mod tests {
     use super::*;
 
     #[test]
-    fn numbers_run_from_1_to_16() {
+    fn numbers_run_from_1_to_18() {
         for (i, refusal) in Refusal::ALL.into_iter().enumerate() {
             assert_eq!(refusal.number() as usize, i + 1);
             assert_eq!(Refusal::from_number(refusal.number()), Some(refusal));
         }
         assert_eq!(Refusal::from_number(0), None);
-        assert_eq!(Refusal::from_number(17), None);
+        assert_eq!(Refusal::from_number(19), None);
     }
 
     #[test]
     fn words_are_distinct() {
         let words: std::collections::BTreeSet<_> = Refusal::ALL.map(Refusal::word).into();
-        assert_eq!(words.len(), 16);
+        assert_eq!(words.len(), 18);
     }
 }

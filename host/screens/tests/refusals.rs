@@ -78,6 +78,33 @@ fn moves() {
 }
 
 #[test]
+fn shapes() {
+    let (mut mesh, mut shapes) = (square(), Shapes::new(4));
+    let mut matrix = vec![0.0; 16];
+    triangle_mesh_inductance_matrix(&mesh.view(), RULE, &mut matrix).unwrap();
+    (0..8).for_each(|place| shapes.save(&mesh, &[place; 8]).unwrap());
+    // place 7 with its first node on its second
+    let (x, y, z) = shapes.columns();
+    let mut flat = (x.to_vec(), y.to_vec(), z.to_vec());
+    flat.0[28] = 1.0;
+    let mut shapes = Shapes::from_parts(*shapes.marks(), *shapes.name_bytes(), flat);
+    mesh.move_node(RULE, &mut matrix, 3, [1.5, 1.0, 0.0]).unwrap();
+    let before = (mesh.clone(), matrix.clone(), shapes.clone());
+    assert_eq!(shapes.save(&mesh, b"a ninth "), Err(Refusal::NoPlace));
+    assert_eq!(shapes.forget(&mesh, b"a ninth "), Err(Refusal::UnknownName));
+    let mut back = |name, matrix: &mut [f64]| mesh.return_to(&shapes, name, RULE, matrix);
+    assert_eq!(back(b"a ninth ", &mut matrix), Err(Refusal::UnknownName));
+    assert_eq!(back(&[0; 8], &mut matrix[..15]), Err(Refusal::Output));
+    assert_eq!(back(&[7; 8], &mut matrix), Err(Refusal::ZeroArea));
+    let mut other = Shapes::new(5);
+    assert_eq!(other.save(&mesh, &[0; 8]), Err(Refusal::Output));
+    assert_eq!(other.forget(&mesh, &[0; 8]), Err(Refusal::Output));
+    assert_eq!(mesh.return_to(&other, &[0; 8], RULE, &mut matrix), Err(Refusal::Output));
+    assert_eq!((mesh, matrix, shapes), before);
+    assert_eq!(other, Shapes::new(5));
+}
+
+#[test]
 fn matrices_and_maps() {
     let matrix = [1.0, 2.0, 3.0, 4.0];
     let two = triangle_mesh_inductance_from_potential_vectors;

@@ -1,10 +1,10 @@
 //! The crate's calls have the original's paths, parameters and results; only the error is another type.
 #![allow(clippy::type_complexity)]
-use screens::Refusal;
 use screens::math;
 use screens::mesh::TriangleMeshView;
 use screens::mesh::elements::tri::{mapping, quadrature, tri3};
 use screens::physics::boundary_element::*;
+use screens::{Refusal, Shapes, TriangleMesh};
 
 type V = [f64; 3];
 type Columns<'a, T> = (&'a [T], &'a [T], &'a [T]);
@@ -47,6 +47,30 @@ fn signatures_are_the_originals() {
     let _: fn(&[f64], &[f64]) -> Value = triangle_mesh_inductive_energy;
     let _: fn(&[f64], &[f64], &mut [f64]) -> Done = triangle_mesh_flux_linkage_from_source_coefficients;
     let _: fn(&[f64], &[f64], &[f64]) -> Value = triangle_mesh_interaction_energy_from_source_coefficients;
+}
+
+/// What the original has not.
+#[test]
+fn signatures_of_named_shapes() {
+    type Name = [u8; 8];
+    type Panels<'a> = Columns<'a, usize>;
+    let _: fn(Columns<'_, f64>, Panels<'_>, &mut [u8], &mut [u8], Outputs<'_>, &Name) -> Done = save_shape;
+    let _: fn(Columns<'_, f64>, Panels<'_>, &mut [u8], &[u8], Columns<'_, f64>, &Name) -> Done = drop_shape;
+    let _: fn(
+        Outputs<'_>,
+        Panels<'_>,
+        QuadratureKind,
+        &mut [f64],
+        &[u8],
+        &[u8],
+        Columns<'_, f64>,
+        &Name,
+    ) -> Result<usize, Refusal> = return_shape;
+    let _: fn(usize) -> Shapes = Shapes::new;
+    let _: fn([u8; 8], [u8; 64], (Vec<f64>, Vec<f64>, Vec<f64>)) -> Shapes = Shapes::from_parts;
+    let _: [fn(&mut Shapes, &TriangleMesh, &Name) -> Done; 2] = [Shapes::save, Shapes::forget];
+    let _: fn(&mut TriangleMesh, &Shapes, &Name, QuadratureKind, &mut [f64]) -> Result<usize, Refusal> =
+        TriangleMesh::return_to;
 }
 
 /// The view of columns that live for any one lifetime.

@@ -68,6 +68,30 @@ fn move_on_the_most_panels() {
 }
 
 #[test]
+fn return_of_the_largest_mesh() {
+    on_small_stack(|| {
+        let squares = (0..63).flat_map(|j| (0..63).map(move |i| 64 * j + i));
+        let mut panels: Vec<[usize; 3]> = squares.flat_map(square).collect();
+        panels.extend_from_within(..8192 - 7938);
+        let (mut mesh, mut shapes) = (on_grid(&panels), Shapes::new(4096));
+        shapes.save(&mesh, b"as cast\0").unwrap();
+        let mut matrix = vec![7.0; 4096 * 4096];
+        let rule = QuadratureKind::Dunavant1;
+        mesh.move_node(rule, &mut matrix, 4095, [63.5, 63.5, 0.5]).unwrap();
+        matrix.fill(7.0);
+        let count = mesh.return_to(&shapes, b"as cast\0", rule, &mut matrix).unwrap();
+        assert_eq!(
+            count,
+            2 * 4096 * 3 - 9,
+            "the ring of a corner of the plate is its one panel's three nodes"
+        );
+        assert_eq!(mesh, on_grid(&panels));
+        assert_eq!(matrix.iter().filter(|cell| **cell == 7.0).count(), 4096 * 4096 - count);
+        assert_eq!(mesh.return_to(&shapes, b"as cast\0", rule, &mut matrix), Ok(0));
+    });
+}
+
+#[test]
 fn many_threads_at_once() {
     let file = std::fs::read(Path::new(env!("CARGO_MANIFEST_DIR")).join("../../examples/hole.pnl")).unwrap();
     let matrix = move || {

@@ -40,14 +40,15 @@ pub fn mesh_refusal_within(mesh: &Mesh, max_nodes: usize, max_panels: usize) -> 
     }
 }
 
-fn accepted(mesh: &Mesh) -> Result<(), u32> {
+/// 0 as done, any other number as a refusal.
+pub fn accepted(mesh: &Mesh) -> Result<(), u32> {
     match mesh_refusal(mesh) {
         0 => Ok(()),
         number => Err(number),
     }
 }
 
-fn kind(rule: u64) -> Result<inner::QuadratureKind, u32> {
+pub fn kind(rule: u64) -> Result<inner::QuadratureKind, u32> {
     inner::kind(rule).ok_or(12)
 }
 
@@ -209,6 +210,7 @@ pub fn row_map(length: usize, sources: usize, node: usize) -> Result<(usize, usi
     Ok((node * sources, sources))
 }
 
+/// What a move or a return leaves.
 pub struct Moved {
     pub count: u64,
     pub matrix: Vec<f64>,
@@ -232,11 +234,20 @@ pub fn move_node(rule: u64, mesh: &Mesh, given: &[f64], node: usize, place: [f64
     moved.y[node] = place[1];
     moved.z[node] = place[2];
     accepted(&moved)?;
-    let fresh = matrix(rule, &moved, n * n)?;
+    let mut changed = vec![false; n];
+    changed[node] = true;
+    renewed(rule, moved, given, &changed)
+}
+
+/// A mesh some of whose nodes have changed, with the matrix renewed: the cells in rows or columns of the rings of these nodes are
+/// those of the mesh's fresh matrix; every other cell keeps its number.
+pub fn renewed(rule: u64, mesh: Mesh, given: &[f64], changed: &[bool]) -> Result<Moved, u32> {
+    let n = mesh.nodes();
+    let fresh = matrix(rule, &mesh, n * n)?;
     let mut ring = vec![false; n];
     for panel in 0..mesh.panels() {
         let indices = mesh.indices(panel);
-        if indices.contains(&node) {
+        if indices.iter().any(|&k| changed[k]) {
             for k in indices {
                 ring[k] = true;
             }
@@ -257,7 +268,7 @@ pub fn move_node(rule: u64, mesh: &Mesh, given: &[f64], node: usize, place: [f64
     Ok(Moved {
         count: count as u64,
         matrix: cells,
-        mesh: moved,
+        mesh,
     })
 }
 

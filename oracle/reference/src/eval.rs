@@ -1,6 +1,6 @@
 //! One entry for every kind of case: input words to result words. A number is its bits, every NaN of a result is one
 //! number, a slice is its length and then its elements. FORMAT.md has the table.
-use crate::{calls, inner, inner::Triangle};
+use crate::{calls, inner, inner::Triangle, shapes};
 pub use ::cases::{In, NAMES, Out, kind, name};
 use cfsem::mesh::elements::tri::{mapping, tri3};
 use cfsem::mesh::probe_triangle3d::probe as mesh_probe;
@@ -197,10 +197,21 @@ fn call(kind: u32, i: &mut In, o: Out) -> Out {
         }
         "move" => {
             let (rule, mesh, matrix) = (i.word(), i.mesh(), i.numbers());
-            match calls::move_node(rule, &mesh, &matrix, i.size(), i.vector()) {
-                Ok(v) => columns(o.word(0).word(v.count), &[v.matrix, v.mesh.x, v.mesh.y, v.mesh.z]),
-                Err(number) => o.refusal(number, 1),
-            }
+            moved(o, calls::move_node(rule, &mesh, &matrix, i.size(), i.vector()))
+        }
+        "save_shape" => {
+            let (mesh, store) = (i.mesh(), i.store());
+            o.buffers(shapes::save_shape(&mesh, &store, i.name()), |o, s| {
+                columns(o.bytes(&s.marks).bytes(&s.names), &[s.x, s.y, s.z])
+            })
+        }
+        "drop_shape" => {
+            let (mesh, store) = (i.mesh(), i.store());
+            o.buffers(shapes::drop_shape(&mesh, &store, i.name()), |o, marks| o.bytes(&marks))
+        }
+        "return_shape" => {
+            let (rule, mesh, matrix, store) = (i.word(), i.mesh(), i.numbers(), i.store());
+            moved(o, shapes::return_shape(rule, &mesh, &matrix, &store, i.name()))
         }
         "row_matrix" => row(o, calls::row_matrix(i.size(), i.size(), i.size())),
         "row_map" => row(o, calls::row_map(i.size(), i.size(), i.size())),
@@ -218,6 +229,17 @@ fn call(kind: u32, i: &mut In, o: Out) -> Out {
             Err(number) => o.refusal(number, 1),
         },
         _ => unreachable!(),
+    }
+}
+
+/// Count, matrix and columns of a move or a return.
+fn moved(o: Out, answer: Result<calls::Moved, u32>) -> Out {
+    match answer {
+        Ok(v) => {
+            let nodes = o.word(0).word(v.count).results(&v.matrix);
+            nodes.results(&v.mesh.x).results(&v.mesh.y).results(&v.mesh.z)
+        }
+        Err(number) => o.refusal(number, 1),
     }
 }
 

@@ -1,10 +1,13 @@
 //! The answers that a port is held to: the original Rust, and over it what document 01 adds
-//! (refusal numbers, limits, the move, the panel file, the display value, the row) and the copies below a matrix's diagonal.
+//! (refusal numbers, limits, the move, the panel file, the display value, the row), the copies below a matrix's diagonal, and the
+//! named shapes.
 pub mod calls;
 pub mod eval;
 pub mod generate;
 pub mod rng;
 pub mod selfcheck;
+pub mod shapes;
+pub mod sorts;
 pub use ::cases::{canonical, file as cases};
 pub use cfsem::physics::boundary_element::flux_density_triangle as inner;
 

@@ -1,13 +1,13 @@
 //! Makes cases with the original's answers, and answers stored cases again. `oracle` alone prints the commands.
 use cfsem::physics::boundary_element as be;
 use oracle::eval::{self, eval};
-use oracle::{calls, cases, generate, selfcheck};
+use oracle::{calls, cases, generate, selfcheck, sorts};
 use std::collections::BTreeMap;
 use std::io::{BufWriter, Read, Write};
 use std::process::ExitCode;
 
 const USAGE: &str =
-    "oracle selfcheck                           document 01's bench sheet, findings, constants, tables, poor panels
+    "oracle selfcheck                           document 01's bench sheet, findings, named shapes, constants, tables, poor panels
 oracle generate SEED FILE [SCALE] [KIND]   cases by seed (FORMAT.md)
 oracle stored FOLDER                       the files of the stored sample (sample/README.md)
 oracle check FILE [COUNT]                  answers the file's cases again and compares; so many must differ, none if not given
@@ -122,6 +122,12 @@ fn statistics(file: &str) {
         if let Some(what) = matrix_given(name, input, results[0]) {
             *counts.entry(what.to_string()).or_default() += 1;
         }
+        for what in sorts::Asked::read(name, input)
+            .iter()
+            .flat_map(|asked| sorts::sorts(asked, results[0]))
+        {
+            *counts.entry(what).or_default() += 1;
+        }
         for what in accepted_mesh(name, input, results[0]).iter().flat_map(peculiar) {
             *counts.entry(what.to_string()).or_default() += 1;
         }
@@ -131,7 +137,7 @@ fn statistics(file: &str) {
     }
 }
 
-/// The sort of matrix that an accepted move or energy is given.
+/// The sort of matrix that an accepted move, return or energy is given.
 fn matrix_given(name: &str, input: &[u64], number: u64) -> Option<&'static str> {
     let i = &mut eval::In::new(input);
     let bits = |cells: &[f64]| cells.iter().map(|x| x.to_bits()).collect::<Vec<u64>>();
@@ -141,7 +147,7 @@ fn matrix_given(name: &str, input: &[u64], number: u64) -> Option<&'static str> 
         bits(&mirror) == bits(cells)
     };
     match name {
-        "move" if number == 0 => {
+        "move" | "return_shape" if number == 0 => {
             let (rule, mesh, cells) = (i.word(), i.mesh(), i.numbers());
             let own = calls::original_matrix(rule, &mesh, cells.len()).expect("an accepted mesh");
             let due = calls::matrix(rule, &mesh, cells.len()).expect("an accepted mesh");
@@ -168,8 +174,8 @@ fn accepted_mesh(name: &str, input: &[u64], number: u64) -> Option<calls::Mesh> 
     let i = &mut eval::In::new(input);
     match name {
         _ if number != 0 => None,
-        "mesh_test" | "densities" | "write_file" => Some(i.mesh()),
-        "quadrature" | "matrix" | "move" => {
+        "mesh_test" | "densities" | "write_file" | "save_shape" | "drop_shape" => Some(i.mesh()),
+        "quadrature" | "matrix" | "move" | "return_shape" => {
             i.word();
             Some(i.mesh())
         }
@@ -229,7 +235,8 @@ fn sort(name: &str, results: &[u64]) -> String {
     match name {
         "coupling" | "block" | "entry" | "mesh_test" | "quadrature" | "densities" | "matrix" | "energy2"
         | "energy1" | "flux" | "interaction" | "move" | "row_matrix" | "row_map" | "read_file" | "write_file"
-        | "display" | "coupling_regular" | "contact" | "identical" | "is_far" => results[0].to_string(),
+        | "display" | "coupling_regular" | "contact" | "identical" | "is_far" | "save_shape" | "drop_shape"
+        | "return_shape" => results[0].to_string(),
         "steps" => format!("{} class {}", results[0], results[1]),
         "density_program" => {
             let mut text = [

@@ -1,6 +1,8 @@
 //! Checks the oracle by itself: document 01's bench sheet, panel files by their bytes, the findings of docs/DIFFERENCES.md, the
-//! cells below a matrix's diagonal, the constants and tables that a port needs, and the count of poor panels against the count
-//! in the original's own warning.
+//! cells below a matrix's diagonal, the named shapes, the constants and tables that a port needs, and the count of poor panels
+//! against the count in the original's own warning.
+mod shapes;
+
 use crate::calls::{self, Mesh};
 use crate::inner::{self, Panel, Triangle};
 use crate::{canonical, eval::Out, generate, rng::Rng};
@@ -39,6 +41,7 @@ pub fn run() -> bool {
     panel_files(&mut sheet);
     findings(&mut sheet);
     below_the_diagonal(&mut sheet);
+    shapes::shapes(&mut sheet);
     warnings(&mut sheet);
     constants();
     standins_against_std();

@@ -28,7 +28,7 @@ abbrev μ-loop : tie.MeasureT-loop
 loop-holds : tie.Need-loop-holds Inv-loop μ-loop
 loop-holds c =
     let a = c .before .before .before .before .args in
-    (omega arith, refl, λ k. ring-start (meshOf [] [] [] (now (a .t0)) (now (a .t1)) (now (a .t2))) (a .v) k (marked (now (a .marks)) k))
+    (omega arith, refl, λ k. ring-start (meshOf [] [] [] (now (a .t0)) (now (a .t1)) (now (a .t2))) (same (a .v)) k (marked (now (a .marks)) k))
 
 mark-panel-requires : tie.Need-mark-panel-requires Inv-loop μ-loop
 mark-panel-requires c κs =
@@ -49,7 +49,7 @@ loop-again c =
     let q = c .before .before .mark-panel in (
       omega arith,
       search needs,
-      λ k. ring-turn (meshOf [] [] [] (now (a .t0)) (now (a .t1)) (now (a .t2))) (a .v) k (l .p) (t .result) (marked (l .marks) k) (marked (q .last .0) k) (marked (now (a .marks)) k) (t .ensures) (l .inv .2 k) (q .ensures k),
+      λ k. ring-turn (meshOf [] [] [] (now (a .t0)) (now (a .t1)) (now (a .t2))) (same (a .v)) k (l .p) (t .result) (marked (l .marks) k) (marked (q .last .0) k) (marked (now (a .marks)) k) (t .ensures) (l .inv .2 k) (q .ensures k),
     )
 
 same-length : tie.Need-same-length Inv-loop μ-loop

@@ -10,7 +10,7 @@ use Rattle.coupling.specs.Block.{mutualInductanceBlock}
 use Rattle.pair.specs.declared.Panel.{Panel}
 use Rattle.pair.specs.Pair.{sourceNumbers}
 use Rattle.scatter.specs.Renewal.{named, marked}
-use Rattle.scatter.proofs.Links.{next-bounds}
+use Rattle.lists.proofs.First.{next-bounds}
 use Rattle.pair_loops.proofs.Loops.{target-next, target-end}
 use Rattle.pair_loops.proofs.add_source.Statement.{statement}
 use Rattle.pair_loops.proofs.add_source.Tie as tie

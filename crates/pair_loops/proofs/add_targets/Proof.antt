@@ -8,7 +8,7 @@ use lib.ListN.{length}
 use Rattle.mesh.specs.Mesh.{Mesh, meshOf, nnode, ntri}
 use Rattle.coupling.specs.Block.{mutualInductanceBlock}
 use Rattle.scatter.specs.Renewal.{named, renewing, marked}
-use Rattle.scatter.proofs.Links.{next-bounds}
+use Rattle.lists.proofs.First.{next-bounds}
 use Rattle.pair_loops.specs.Additions.{pairEntries, targetEntries}
 use Rattle.pair_loops.proofs.Loops.{target-turn, target-next, target-end, added-length}
 use Rattle.pair_loops.proofs.Ready.{ready-now}

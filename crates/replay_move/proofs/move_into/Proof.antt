@@ -1,7 +1,8 @@
 -- The copies are what the case has, and keep their lengths; the claim of the call says what is due.
 use native.Mathlib.Nat.{le-add-right}
 use denote.Ref.{now}
-use Rattle.replay_move.proofs.Moved.{as-long, compared}
+use Rattle.replay_columns.proofs.Leaving.{as-long}
+use Rattle.replay_move.proofs.Moved.{compared}
 use Rattle.replay_move.proofs.move_into.Statement.{statement}
 use Rattle.replay_move.proofs.move_into.Tie as tie
 

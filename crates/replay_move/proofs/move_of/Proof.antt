@@ -5,7 +5,9 @@ use native.Mathlib.Nat.{le-add-right}
 use native.Mathlib.Omega.{arith}
 use borrow.Author.Needs.{zero≤}
 use denote.Ref.{now}
-use Rattle.replay_move.proofs.Moved.{Places, behind-inside, behind-mesh, cells-short, column-short, copy-long, places, results-inside}
+use Rattle.replay_words.proofs.Copy.{copy-long}
+use Rattle.replay_columns.proofs.Leaving.{cells-short, column-short}
+use Rattle.replay_move.proofs.Moved.{Places, behind-inside, behind-mesh, places, results-inside}
 use Rattle.replay_move.proofs.move_of.Statement.{statement}
 use Rattle.replay_move.proofs.move_of.Tie as tie
 

@@ -4,7 +4,7 @@ use Prim.Native.Nat.{_-_}
 use native.Mathlib.Omega.{arith}
 use Rattle.binary64.specs.Binary64.{plusZero}
 use Rattle.scatter.specs.Renewal.{marked}
-use Rattle.scatter.proofs.Links.{next-above}
+use Rattle.lists.proofs.First.{next-above}
 use Rattle.scatter.proofs.Steps.{in-square}
 use Rattle.scatter.proofs.Rows.{RowRenewed, row-begun, row-next, row-done}
 use borrow.Author.Needs.{needs}

@@ -6,7 +6,7 @@ use native.Mathlib.Omega.{arith}
 use denote.Ref.{now}
 use Rattle.scatter.specs.Renewal.{marked}
 use Rattle.scatter.specs.Mirror.{mirrored, cellsOf}
-use Rattle.scatter.proofs.Links.{next-above}
+use Rattle.lists.proofs.First.{next-above}
 use Rattle.scatter.proofs.Steps.{both-in-square}
 use Rattle.scatter.proofs.Rows.{RowRenewed, row-begun, row-next, row-done, copied-kept, copy-due}
 use borrow.Author.Needs.{needs}

@@ -1,12 +1,14 @@
 -- The scan from above: at k and above every link is right, and `first` is the link of k.
-use mathlib.Core.Path.{_≡_, refl, ap, _∙_}
-use Prim.Native.Nat.{_≤_, _+_, _-_}
+use mathlib.Core.Path.{_≡_, refl}
+use Prim.Native.Nat.{_≤_, _-_}
 use native.Mathlib.Omega.{arith}
 use denote.Ref.{now}
 use lib.ListN.{length, length-set}
 use Rattle.scatter.specs.Renewal.{marked}
-use Rattle.scatter.specs.Links.{nextFrom, LinksNext}
-use Rattle.scatter.proofs.Links.{past-end, link-down}
+use Rattle.lists.specs.Counting.{nextFrom}
+use Rattle.lists.proofs.First.{past-end}
+use Rattle.scatter.specs.Links.{LinksNext}
+use Rattle.scatter.proofs.Links.{link-down}
 use borrow.Author.Needs.{needs}
 use Rattle.scatter.proofs.link_marked.Statement.{statement}
 use Rattle.scatter.proofs.link_marked.Tie as tie

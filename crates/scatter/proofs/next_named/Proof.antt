@@ -4,7 +4,8 @@ use native.Mathlib.Omega.{arith}
 use denote.Ref.{now}
 use Prim.Native.Nat.{_-_}
 use Rattle.scatter.specs.Renewal.{named, marked}
-use Rattle.scatter.proofs.Links.{row-marked, past-end, next-linked}
+use Rattle.lists.proofs.First.{past-end}
+use Rattle.scatter.proofs.Links.{row-marked, next-linked}
 use borrow.Author.Needs.{needs}
 use Rattle.scatter.proofs.next_named.Statement.{statement}
 use Rattle.scatter.proofs.next_named.Tie as tie

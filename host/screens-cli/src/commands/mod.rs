@@ -1,11 +1,15 @@
 //! The commands, one a module: its help and what it does.
 mod check;
 mod density;
+mod drop_shape;
 mod energy;
 mod matrix;
 mod move_node;
 mod plot;
+mod return_shape;
 mod row;
+mod save_shape;
+mod shapes;
 mod write;
 
 use crate::failure::Failure;
@@ -18,13 +22,17 @@ pub(crate) struct Command {
     pub(crate) run: fn(Vec<OsString>) -> Result<String, Failure>,
 }
 
-const COMMANDS: [Command; 8] = [
+const COMMANDS: [Command; 12] = [
     check::COMMAND,
     write::COMMAND,
     matrix::COMMAND,
     row::COMMAND,
     energy::COMMAND,
     move_node::COMMAND,
+    save_shape::COMMAND,
+    shapes::COMMAND,
+    return_shape::COMMAND,
+    drop_shape::COMMAND,
     density::COMMAND,
     plot::COMMAND,
 ];

@@ -2,12 +2,10 @@
 use super::Command;
 use crate::args::{Args, number};
 use crate::failure::Failure;
-use crate::files::Output;
 use crate::npy::Matrix;
+use crate::outputs::Outputs;
 use crate::panels;
 use std::ffi::{OsStr, OsString};
-use std::io::Write;
-use std::path::{Path, PathBuf};
 
 pub(super) const COMMAND: Command = Command {
     name: "move",
@@ -36,7 +34,7 @@ fn run(words: Vec<OsString>) -> Result<String, Failure> {
     let node: u64 = number(&args.needed_word("--node")?, "--node")?;
     let place = place(&args.needed("--to")?)?;
     let rule = panels::rule(&args.needed_word("--rule")?)?;
-    let (out, mesh_out) = (args.output()?, args.option_path("--mesh-out"));
+    let outputs = Outputs::new(&mut args)?;
     let mut mesh = panels::read(&path)?;
     let mut matrix = Matrix::read(&matrix_path)?;
     // of the matrix as it was given: the move makes some of these cells alike
@@ -45,23 +43,14 @@ fn run(words: Vec<OsString>) -> Result<String, Failure> {
     let count = mesh
         .move_node(rule, &mut matrix.cells, at, place)
         .map_err(|refusal| Failure::Refused(format!("{}: move of node {node}", path.display()), refusal))?;
-    let moved = mesh.to_panel_file();
-    write(&out, &matrix, mesh_out.as_ref(), &moved)?;
-    // Nothing is left to do if standard error is closed.
-    let _ = std::io::stderr().write_all(note.as_bytes());
-    let also = mesh_out
-        .map(|path| format!(" and {}", path.display()))
-        .unwrap_or_default();
+    let renewed = outputs.renewed(count, &matrix, &mesh, &note)?;
     Ok(format!(
-        "{}: node {node} to {} {} {}, rule {}\n{count} of {} cells renewed\n{}wrote {}{also}\n",
+        "{}: node {node} to {} {} {}, rule {}\n{renewed}",
         path.display(),
         place[0],
         place[1],
         place[2],
         rule.number(),
-        matrix.cells.len(),
-        matrix.note(),
-        out.display(),
     ))
 }
 
@@ -72,16 +61,4 @@ fn place(words: &[OsString]) -> Result<[f64; 3], Failure> {
         _ => Err(Failure::usage(format!("--to: {} is no place", word.display()))),
     };
     Ok([coordinate(&words[0])?, coordinate(&words[1])?, coordinate(&words[2])?])
-}
-
-/// Writes the matrix, and the mesh if it is asked for: both in full before either takes its place.
-fn write(out: &Path, matrix: &Matrix, mesh_out: Option<&PathBuf>, mesh: &[u8]) -> Result<(), Failure> {
-    let cells = Output::write(out, |file| matrix.write(file))?;
-    if let Some(path) = mesh_out {
-        if cells.clashes(path) {
-            return Err(Failure::usage("-o and --mesh-out name the same file"));
-        }
-        Output::write(path, |file| file.write_all(mesh))?.put()?;
-    }
-    cells.put()
 }

@@ -24,8 +24,8 @@ impl Folder {
     }
 
     /// `square.pnl`, a square metre of two panels, its nodes and panels as text in `nodes.txt` and `panels.txt`, its matrix
-    /// `square.npy` under rule 3, nodal values in `values.txt`, and `strange.pnl`, the square with a node that is not finite, a
-    /// poor panel and a node in no panel.
+    /// `square.npy` under rule 3, its store `square.shapes`, nodal values in `values.txt`, and `strange.pnl`, the square with a
+    /// node that is not finite, a poor panel and a node in no panel.
     fn small_screen(&self) {
         let mesh = square();
         let mut matrix = vec![0.0; 16];
@@ -34,6 +34,7 @@ impl Folder {
         self.put("nodes.txt", b"# x y z\n0 0 0\n1 0 0\n0 1 0\n1 1 0\n");
         self.put("panels.txt", b"0 1 2\n1 3 2\n");
         self.put("square.npy", &npy("(4, 4)", &matrix));
+        self.put("square.shapes", &square_store());
         self.put("values.txt", b"1 2 4 8 # amperes\n");
         self.put("strange.pnl", &strange().to_panel_file());
     }
@@ -104,6 +105,51 @@ pub(crate) fn square_file() -> Vec<u8> {
     let nodes = [zero, zero, zero, one, zero, zero, zero, one, zero, one, one, zero];
     let panels = [0, 0, 1, 0, 2, 0, 1, 0, 3, 0, 2, 0];
     [&b"PNL\x01\x00\x04\x00\x02\x00"[..], nodes.as_flattened(), &panels].concat()
+}
+
+/// The square with its last node raised by half a metre.
+pub(crate) fn raised() -> TriangleMesh {
+    let nodes = (
+        vec![0.0, 1.0, 0.0, 1.0],
+        vec![0.0, 0.0, 1.0, 1.0],
+        vec![0.0, 0.0, 0.0, 0.5],
+    );
+    TriangleMesh::new(nodes, (vec![0, 1], vec![1, 3], vec![2, 2])).unwrap()
+}
+
+/// A place of a store of the square: its mark, its name and its columns.
+pub(crate) type Place = (u8, [u8; 8], [[f64; 4]; 3]);
+
+pub(crate) const FREE: Place = (0, [0; 8], [[0.0; 4]; 3]);
+
+/// The square in a place, its last node raised to z.
+pub(crate) fn place(mark: u8, name: &[u8; 8], z: f64) -> Place {
+    let columns = [[0.0, 1.0, 0.0, 1.0], [0.0, 0.0, 1.0, 1.0], [0.0, 0.0, 0.0, z]];
+    (mark, *name, columns)
+}
+
+/// The file of a store of the square.
+pub(crate) fn store(places: &[Place; 8]) -> Vec<u8> {
+    let mut file = places.map(|(mark, _, _)| mark).to_vec();
+    file.extend(places.iter().flat_map(|(_, name, _)| name));
+    for axis in 0..3 {
+        let column = places.iter().flat_map(|(_, _, columns)| columns[axis]);
+        file.extend(column.flat_map(f64::to_le_bytes));
+    }
+    file
+}
+
+/// The places of `square.shapes`: the square as `as-cast`, with its last node raised as `raised`, and a stale name between them.
+pub(crate) fn square_places() -> [Place; 8] {
+    let mut places = [FREE; 8];
+    places[0] = place(1, b"as-cast\0", 0.0);
+    places[1] = place(0, b"raised\0\0", 9.0);
+    places[2] = place(7, b"raised\0\0", 0.5);
+    places
+}
+
+fn square_store() -> Vec<u8> {
+    store(&square_places())
 }
 
 fn strange() -> TriangleMesh {

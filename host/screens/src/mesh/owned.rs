@@ -1,8 +1,9 @@
 //! A mesh that owns its columns.
 use super::panel_file::{panel_file_counts, panel_file_length, read_panel_file, write_panel_file};
+use super::shapes::Shapes;
 use super::view::TriangleMeshView;
 use crate::Refusal;
-use crate::physics::boundary_element::{QuadratureKind, move_node};
+use crate::physics::boundary_element::{QuadratureKind, move_node, return_shape};
 
 /// A tested mesh that owns its columns: what is read from a panel file, moved and written again.
 ///
@@ -108,6 +109,33 @@ impl TriangleMesh {
             matrix,
             node,
             place,
+        )?;
+        self.test()?;
+        Ok(count)
+    }
+
+    /// Returns to a named shape of a store and renews the matrix, as [`return_shape`].
+    ///
+    /// # Errors
+    ///
+    /// Refused with 6 for a store of another node count or a matrix of other than n × n cells, 17 if no held place has the name,
+    /// and 4 if a panel of the named shape has no area. Mesh and matrix are then as they were.
+    pub fn return_to(
+        &mut self,
+        shapes: &Shapes,
+        name: &[u8; 8],
+        quad_kind: QuadratureKind,
+        matrix: &mut [f64],
+    ) -> Result<usize, Refusal> {
+        let count = return_shape(
+            (&mut self.x, &mut self.y, &mut self.z),
+            (&self.t0, &self.t1, &self.t2),
+            quad_kind,
+            matrix,
+            shapes.marks(),
+            shapes.name_bytes(),
+            shapes.columns(),
+            name,
         )?;
         self.test()?;
         Ok(count)

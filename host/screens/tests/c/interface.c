@@ -1,6 +1,6 @@
 /* Calls every function of screens.h once with a known answer, and once for each refusal that only a C caller can ask for; of
-   matrix and move it looks at every cell of a small screen, of a written file at every byte. Prints a line a failed check; the
-   exit status is 1 if there is one. */
+   matrix, move and return it looks at every cell of a small screen, of a written file and of a store at every byte. Prints a
+   line a failed check; the exit status is 1 if there is one. */
 #include "screens.h"
 #include <math.h>
 #include <stdio.h>
@@ -260,6 +260,238 @@ static void moves_keep_symmetry(void) {
     CHECK(screens_mesh_inductance_matrix(2, GRID, due, 81) == 0 && memcmp(cells, due, sizeof due) == 0);
 }
 
+/* the grid's store, one element longer than it is, and all that the calls are lent in one place to be compared */
+typedef struct {
+    double x[9], y[9], z[9], cells[82], sx[73], sy[73], sz[73];
+    size_t g0[8], g1[8], g2[8];
+    uint8_t marks[9], names[65];
+} Lent;
+static Lent now, was;
+#define LENT_MESH now.x, 9, now.y, 9, now.z, 9, now.g0, 8, now.g1, 8, now.g2, 8
+#define LENT_STORE now.marks, 8, now.names, 64, now.sx, 72, now.sy, 72, now.sz, 72
+#define NAME(text) ((const uint8_t *)(text))
+
+/* the grid, its matrix under rule 2, and a store of free places */
+static void lend(void) {
+    memset(&now, 0, sizeof now);
+    make_grid();
+    memcpy(now.x, gx, sizeof gx), memcpy(now.y, gy, sizeof gy), memcpy(now.z, gz, sizeof gz);
+    memcpy(now.g0, g0, sizeof g0), memcpy(now.g1, g1, sizeof g1), memcpy(now.g2, g2, sizeof g2);
+    CHECK(screens_mesh_inductance_matrix(2, LENT_MESH, now.cells, 81) == 0);
+    fill(now.sx, 73), fill(now.sy, 73), fill(now.sz, 73);
+    memset(now.names, '.', 65);
+    now.marks[8] = 77, now.cells[81] = 77;
+}
+
+static int as_it_was(void) {
+    return memcmp(&now, &was, sizeof now) == 0;
+}
+
+/* what a save or a return has to leave, by hand, in what was */
+static void copy_shape(size_t place) {
+    memcpy(was.sx + 9 * place, now.x, sizeof gx);
+    memcpy(was.sy + 9 * place, now.y, sizeof gy);
+    memcpy(was.sz + 9 * place, now.z, sizeof gz);
+}
+
+static void name_place(size_t place, uint8_t mark, const char *name) {
+    was.marks[place] = mark;
+    memcpy(was.names + 8 * place, name, 8);
+}
+
+#define SAVE(name) screens_save_shape(LENT_MESH, LENT_STORE, NAME(name))
+#define DROP(name) screens_drop_shape(LENT_MESH, LENT_STORE, NAME(name))
+#define RETURN(rule, name, count) screens_return_shape(rule, LENT_MESH, now.cells, 81, LENT_STORE, NAME(name), count)
+
+/* each is in bits what the request's words give: no other byte of what is lent is written */
+static void shapes_saved_and_dropped(void) {
+    static const char *const names[] = {
+        "as cast", "bent\0\0\0", "c\0c\0c\0c", "d      ", "e      ", "f      ", "g      ", "h      "};
+    lend();
+    for (size_t p = 0; p < 8; p++) {
+        now.z[p] += 0.25;
+        was = now;
+        name_place(p, 1, names[p]), copy_shape(p);
+        CHECK(SAVE(names[p]) == 0 && as_it_was());
+    }
+    CHECK(SAVE("ninth  ") == 18 && as_it_was());
+    CHECK(DROP("ninth  ") == 17 && as_it_was());
+    now.marks[2] = 7, now.marks[6] = 255;
+    now.z[4] += 0.25;
+    was = now;
+    copy_shape(2);
+    CHECK(SAVE(names[2]) == 0 && as_it_was());
+    was.marks[6] = 0;
+    CHECK(DROP(names[6]) == 0 && as_it_was());
+    CHECK(DROP(names[6]) == 17 && as_it_was());
+    name_place(6, 1, "ninth  "), copy_shape(6);
+    CHECK(SAVE("ninth  ") == 0 && as_it_was());
+}
+
+/* sixty moves, and back */
+static void shapes_returned_to(void) {
+    size_t count = 9;
+    double start[82];
+    lend();
+    CHECK(SAVE("as cast") == 0);
+    memcpy(start, now.cells, sizeof start);
+    for (size_t k = 0; k < 60; k++) {
+        size_t v = 5 * k % 9;
+        double px = now.x[v] + 0.05 * (double)(k % 3) - 0.05, py = now.y[v] + 0.04 * (double)(k % 5) - 0.08;
+        CHECK(screens_move_node(2, LENT_MESH, now.cells, 81, v, px, py, now.z[v] + 0.01, &count) == 0);
+    }
+    was = now;
+    memcpy(was.x, gx, sizeof gx), memcpy(was.y, gy, sizeof gy), memcpy(was.z, gz, sizeof gz);
+    memcpy(was.cells, start, sizeof start);
+    CHECK(!as_it_was() && RETURN(2, "as cast", &count) == 0 && count == 81 && as_it_was());
+    count = 9;
+    CHECK(RETURN(2, "as cast", &count) == 0 && count == 0 && as_it_was());
+}
+
+/* on any numbers: -0 for +0 in one node, then in all, renews the cells of the rings and no other */
+static void returns_on_any_numbers(void) {
+    for (size_t v = 0; v <= 9; v++) {
+        size_t count = 0, r = 0;
+        lend();
+        now.marks[3] = 255;
+        for (size_t k = 0; k < 9; k++) {
+            now.sx[27 + k] = now.x[k], now.sy[27 + k] = now.y[k];
+            now.sz[27 + k] = v == k || v == 9 ? -0.0 : 0.0;
+            r += v == 9 || in_ring(v, k);
+        }
+        CHECK(screens_mesh_inductance_matrix(2, now.sx + 27, 9, now.sy + 27, 9, now.sz + 27, 9, g0, 8, g1, 8, g2, 8, due,
+            81) == 0);
+        fill(now.cells, 82);
+        was = now;
+        memcpy(was.z, now.sz + 27, sizeof gz);
+        for (size_t k = 0; k < 81; k++)
+            if (v == 9 || in_ring(v, k / 9) || in_ring(v, k % 9))
+                was.cells[k] = due[k];
+        CHECK(RETURN(2, "........", &count) == 0 && count == 2 * 9 * r - r * r && as_it_was());
+    }
+}
+
+/* two places hold one name, and a free one has it too: the first that is held counts */
+static void shapes_of_one_name(void) {
+    size_t count;
+    lend();
+    for (size_t p = 0; p < 8; p++)
+        memcpy(now.names + 8 * p, "as cast", 8);
+    now.marks[2] = 7, now.marks[5] = 1;
+    was = now;
+    copy_shape(2), copy_shape(5);
+    was.sz[22] = 0.5, was.sz[49] = 0.25;
+    now = was;
+    memcpy(was.z, now.sz + 18, sizeof gz);
+    CHECK(RETURN(2, "as cast", &count) == 0 && count == 2 * 9 * 7 - 7 * 7 && now.z[4] == 0.5);
+    CHECK(screens_mesh_inductance_matrix(2, LENT_MESH, was.cells, 81) == 0 && as_it_was());
+    was.marks[2] = 0;
+    CHECK(DROP("as cast") == 0 && as_it_was());
+    CHECK(RETURN(2, "as cast", &count) == 0 && count == 2 * 9 * 7 - 7 * 7 && now.z[4] == 0.25);
+    CHECK(screens_mesh_inductance_matrix(2, LENT_MESH, due, 81) == 0 && memcmp(now.cells, due, sizeof due) == 0);
+    CHECK(DROP("as cast") == 0 && now.marks[5] == 0 && DROP("as cast") == 17);
+    CHECK(RETURN(2, "as cast", &count) == 17 && count == 0 && now.z[4] == 0.25);
+}
+
+/* NaN is one number, and the bits set are the saved ones; a node on no panel has no cell: the last panel is not lent */
+static void returns_without_cells(void) {
+    const uint64_t nan = 0x7ff8000000000000, other = 0xfff8000000001234;
+    size_t count = 9;
+    lend();
+    memcpy(now.z + 4, &nan, 8);
+    CHECK(SAVE("as cast") == 0);
+    memcpy(now.sz + 4, &other, 8);
+    fill(now.cells, 82);
+    was = now;
+    memcpy(was.z + 4, &other, 8);
+    CHECK(RETURN(2, "as cast", &count) == 0 && count == 0 && as_it_was());
+    now.sx[8] = 9, count = 9;
+    was = now;
+    was.x[8] = 9;
+    CHECK(screens_return_shape(2, now.x, 9, now.y, 9, now.z, 9, now.g0, 7, now.g1, 7, now.g2, 7, now.cells, 81, LENT_STORE,
+        NAME("as cast"), &count) == 0 && count == 0 && as_it_was());
+}
+
+#define SHAPES_REFUSED(number, mesh, store, name)                                                                   \
+    do {                                                                                                            \
+        was = now, count = 9;                                                                                       \
+        CHECK(screens_save_shape(mesh, store, NAME(name)) == (number) && as_it_was());                              \
+        CHECK(screens_drop_shape(mesh, store, NAME(name)) == (number) && as_it_was());                              \
+        CHECK(screens_return_shape(2, mesh, now.cells, 81, store, NAME(name), &count) == (number) && count == 0);   \
+        count = 9;                                                                                                  \
+        CHECK(screens_return_shape(6, mesh, now.cells, 81, store, NAME(name), &count) == 12 && count == 0);         \
+        CHECK(as_it_was());                                                                                         \
+    } while (0)
+
+#define MESH_OF(nx, ny, nz, n0, n1, n2) now.x, nx, now.y, ny, now.z, nz, now.g0, n0, now.g1, n1, now.g2, n2
+#define STORE_OF(m, k, nx, ny, nz) now.marks, m, now.names, k, now.sx, nx, now.sy, ny, now.sz, nz
+#define SHORT_STORE STORE_OF(8, 63, 72, 72, 72)
+
+/* of each the numbers behind it apply too: a wrong store, and a rule that is none before all */
+static void shapes_refused(void) {
+    size_t count;
+    lend();
+    now.marks[0] = 1, memcpy(now.names, "as cast", 8);
+    SHAPES_REFUSED(1, MESH_OF(8, 9, 9, 8, 7, 8), SHORT_STORE, "as cast");
+    SHAPES_REFUSED(1, MESH_OF(9, 9, 8, 8, 8, 8), SHORT_STORE, "unknown");
+    SHAPES_REFUSED(2, MESH_OF(9, 9, 9, 8, 8, 7), SHORT_STORE, "as cast");
+    SHAPES_REFUSED(3, MESH_OF(8, 8, 8, 8, 8, 8), SHORT_STORE, "unknown");
+    SHAPES_REFUSED(6, LENT_MESH, STORE_OF(7, 64, 72, 72, 72), "as cast");
+    SHAPES_REFUSED(6, LENT_MESH, STORE_OF(9, 64, 72, 72, 72), "unknown");
+    SHAPES_REFUSED(6, LENT_MESH, STORE_OF(8, 63, 72, 72, 72), "as cast");
+    SHAPES_REFUSED(6, LENT_MESH, STORE_OF(8, 65, 72, 72, 72), "unknown");
+    SHAPES_REFUSED(6, LENT_MESH, STORE_OF(8, 64, 71, 72, 72), "as cast");
+    SHAPES_REFUSED(6, LENT_MESH, STORE_OF(8, 64, 73, 72, 72), "unknown");
+    SHAPES_REFUSED(6, LENT_MESH, STORE_OF(8, 64, 72, 71, 72), "as cast");
+    SHAPES_REFUSED(6, LENT_MESH, STORE_OF(8, 64, 72, 73, 72), "unknown");
+    SHAPES_REFUSED(6, LENT_MESH, STORE_OF(8, 64, 72, 72, 71), "as cast");
+    SHAPES_REFUSED(6, LENT_MESH, STORE_OF(8, 64, 72, 72, 73), "unknown");
+    SHAPES_REFUSED(6, LENT_MESH, STORE_OF(8, 64, 0, 0, 0), "unknown");
+    memset(now.marks, 2, 8);
+    SHAPES_REFUSED(6, LENT_MESH, STORE_OF(8, 64, 72, 72, 73), "unknown");
+    now.g2[7] = now.g1[7];
+    SHAPES_REFUSED(4, LENT_MESH, SHORT_STORE, "unknown");
+    SHAPES_REFUSED(4, LENT_MESH, LENT_STORE, "unknown");
+}
+
+#define RETURN_REFUSED(number, rule, size, name)                                                                    \
+    do {                                                                                                            \
+        was = now, count = 9;                                                                                       \
+        CHECK(screens_return_shape(rule, LENT_MESH, now.cells, size, LENT_STORE, NAME(name), &count) == (number));  \
+        CHECK(count == 0 && as_it_was());                                                                           \
+    } while (0)
+
+static void returns_refused(void) {
+    size_t count;
+    lend();
+    CHECK(SAVE("as cast") == 0);
+    now.z[4] = 0.5;
+    RETURN_REFUSED(12, 0, 81, "as cast");
+    RETURN_REFUSED(12, UINT32_MAX, 80, "unknown");
+    RETURN_REFUSED(6, 2, 80, "as cast");
+    RETURN_REFUSED(6, 2, 82, "unknown");
+    RETURN_REFUSED(17, 2, 81, "unknown");
+    RETURN_REFUSED(17, 2, 81, "........");
+    /* a shape made flat by hand */
+    now.sx[0] = 1;
+    RETURN_REFUSED(4, 2, 81, "as cast");
+    now.sx[0] = 0;
+    CHECK(RETURN(2, "as cast", &count) == 0 && count > 0 && now.z[4] == 0);
+}
+
+static void shapes_of_no_nodes(void) {
+    size_t count = 9;
+    lend();
+    was = now;
+    name_place(0, 1, "as cast");
+    CHECK(screens_save_shape(MESH_OF(0, 0, 0, 0, 0, 0), STORE_OF(8, 64, 0, 0, 0), NAME("as cast")) == 0 && as_it_was());
+    CHECK(screens_return_shape(2, MESH_OF(0, 0, 0, 0, 0, 0), now.cells, 0, STORE_OF(8, 64, 0, 0, 0), NAME("as cast"),
+        &count) == 0 && count == 0 && as_it_was());
+    was.marks[0] = 0;
+    CHECK(screens_drop_shape(MESH_OF(0, 0, 0, 0, 0, 0), STORE_OF(8, 64, 0, 0, 0), NAME("as cast")) == 0 && as_it_was());
+    CHECK(screens_drop_shape(MESH_OF(0, 0, 0, 0, 0, 0), STORE_OF(8, 64, 0, 0, 0), NAME("as cast")) == 17 && as_it_was());
+}
+
 static void matrices(void) {
     double identity[] = {1, 0, 0, 1}, map[] = {1, 2, 3, 4}, s[] = {3, 4}, k[] = {5, 6}, ones[] = {1, 1}, v[2], value;
     size_t offset, length;
@@ -428,6 +660,14 @@ int main(void) {
     mirrors();
     moves_on_any_numbers();
     moves_keep_symmetry();
+    shapes_saved_and_dropped();
+    shapes_returned_to();
+    returns_on_any_numbers();
+    shapes_of_one_name();
+    returns_without_cells();
+    shapes_refused();
+    returns_refused();
+    shapes_of_no_nodes();
     matrices();
     files();
     written_files();

@@ -73,7 +73,7 @@ fn patch(r: &mut Rng, max_nodes: usize, max_panels: usize) -> Mesh {
 }
 
 /// One of a node's three coordinates.
-fn coordinate<'a>(r: &mut Rng, mesh: &'a mut Mesh, node: usize) -> &'a mut f64 {
+pub fn coordinate<'a>(r: &mut Rng, mesh: &'a mut Mesh, node: usize) -> &'a mut f64 {
     let column = match r.index(3) {
         0 => &mut mesh.x,
         1 => &mut mesh.y,
@@ -259,7 +259,8 @@ fn damage(r: &mut Rng, mesh: &mut Mesh) {
     }
 }
 
-fn whole(mesh: &Mesh) -> bool {
+/// Whether the columns of nodes, and those of panels, have one length.
+pub fn whole(mesh: &Mesh) -> bool {
     let (n, p) = (mesh.nodes(), mesh.panels());
     mesh.y.len() == n && mesh.z.len() == n && mesh.b.len() == p && mesh.c.len() == p
 }

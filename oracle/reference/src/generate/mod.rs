@@ -2,6 +2,7 @@
 mod meshes;
 mod numbers;
 mod panels;
+mod shapes;
 pub mod stored;
 
 use crate::calls::{self, Mesh};
@@ -158,6 +159,9 @@ pub fn one(kind: u32, r: &mut Rng) -> Vec<u64> {
             let due = calls::file_length(mesh.nodes(), mesh.panels());
             o.mesh(&mesh).size(length_near(r, due))
         }
+        "save_shape" => shapes::save(r),
+        "drop_shape" => shapes::dropping(r),
+        "return_shape" => shapes::returning(r),
         name => panic!("no generator for {name}"),
     }
     .0
@@ -211,7 +215,7 @@ fn any_matrix(r: &mut Rng, length: usize, n: usize) -> Vec<f64> {
     cells
 }
 
-/// A matrix for a move: the original's own of the mesh or any numbers, and either made symmetric or not.
+/// A matrix for a move or a return: the original's own of the mesh or any numbers, and either made symmetric or not.
 fn handed_in(r: &mut Rng, rule: u64, mesh: &Mesh, length: usize) -> Vec<f64> {
     let n = mesh.nodes();
     let mut cells = match calls::original_matrix(rule, mesh, n * n) {
@@ -289,7 +293,7 @@ pub fn count(kind: u32) -> usize {
         "sqrt" | "ln" | "asinh" | "atan2" | "mesh_test" | "segment_distance" => 5000,
         "closest_point" | "point_distance" | "coupling" | "is_far" => 6000,
         "area" | "quality" | "record" | "potential" | "gradient" | "contact" | "bisect" | "steps" | "identical" => 4000,
-        "matrix" | "move" => 2500,
+        "matrix" | "move" | "return_shape" => 2500,
         _ => 3000,
     }
 }
@@ -386,7 +390,8 @@ pub fn all(seed: u64, scale: f64, only: Option<u32>, mut each: impl FnMut(u32, &
             let input = one(kind, &mut r);
             each(kind, &input, &eval(kind, &input));
         }
-        for (_, input) in limits.iter().filter(|(name, _)| *name == eval::name(kind)) {
+        let of_kind = limits.iter().filter(|(name, _)| *name == eval::name(kind));
+        for input in of_kind.map(|(_, input)| input).chain(&shapes::limits(eval::name(kind))) {
             each(kind, &input.0, &eval(kind, &input.0));
         }
     }

@@ -3,9 +3,12 @@ use super::meshes::{self, filled};
 use super::numbers::values;
 use super::one;
 use super::panels::{Style, point};
+use super::shapes::{shift, store_of};
 use crate::calls::{self, Mesh};
 use crate::eval::{self, Out, eval};
 use crate::rng::Rng;
+use crate::sorts::{self, Asked};
+use std::collections::BTreeMap;
 
 /// Of the first sixty seeds this one gives the small cases with the most refusals and sorts of results.
 const SEED: u64 = 35;
@@ -32,6 +35,8 @@ const MESHES: [&str; 13] = [
 ];
 /// What `oracle_matrices` replays.
 const MATRICES: [&str; 2] = ["matrix", "move"];
+/// What `oracle_shapes` replays, and how many cases there are of each.
+const SHAPES: [(&str, usize); 3] = [("save_shape", 60), ("drop_shape", 50), ("return_shape", 70)];
 /// What is no call.
 const LEFT_OUT: [&str; 1] = ["steps"];
 
@@ -40,20 +45,25 @@ pub type Case = (u32, Vec<u64>, Vec<u64>);
 
 /// The files by their names. The last case of each is wrong.
 pub fn files() -> Vec<(&'static str, Vec<Case>)> {
-    let other = |name: &&str| !MESHES.contains(name) && !MATRICES.contains(name) && !LEFT_OUT.contains(name);
+    let shape = |name: &str| SHAPES.iter().any(|(kind, _)| *kind == name);
+    let elsewhere = |name: &&str| MESHES.contains(name) || MATRICES.contains(name) || LEFT_OUT.contains(name);
+    let other = |name: &&str| !elsewhere(name) && !shape(name);
     let fixed: Vec<&str> = eval::NAMES.into_iter().filter(other).collect();
     let calls = small(&fixed);
     let mut meshes = small(&MESHES);
     meshes.push(answered("read_file", zero_area(), 4));
     let mut matrices = small(&MATRICES);
     matrices.extend(larger(&[20, 21, 22, 23, 24], 2));
+    let shapes = SHAPES.into_iter().flat_map(|(name, count)| told_apart(name, count));
     let mut large = larger(&[28, 36, 44, 52, 60], 1);
     large.extend(too_large());
     large.push(long_file());
+    large.extend(large_shapes());
     let files = [
         ("calls", calls, "gradient"),
         ("meshes", meshes, "densities"),
         ("matrices", matrices, "matrix"),
+        ("shapes", shapes.collect(), "return_shape"),
         ("large", large, "move"),
     ];
     let mut ended = vec![];
@@ -81,6 +91,57 @@ fn small(names: &[&str]) -> Vec<Case> {
         }
     }
     cases
+}
+
+/// So many cases of a kind of named shapes: under each number some of each sort that `sorts` tells apart, where the first
+/// thousands have them, then accepted ones; all in the order of the stream.
+fn told_apart(name: &str, count: usize) -> Vec<Case> {
+    let kind = eval::kind(name).expect(name);
+    let mut r = Rng(SEED.wrapping_mul(0x2545f4914f6cdd1d) ^ ((kind as u64) << 48));
+    let mut seen = BTreeMap::new();
+    let (mut cases, mut rest) = (vec![], vec![]);
+    for place in 0..5000 {
+        let input = one(kind, &mut r);
+        let asked = Asked::read(name, &input).expect(name);
+        if !is_small(&asked) {
+            continue;
+        }
+        let results = eval(kind, &input);
+        let number = results[0];
+        let mut all: Vec<_> = sorts::sorts(&asked, number)
+            .into_iter()
+            .map(|sort| (number, sort))
+            .collect();
+        all.push((number, String::new()));
+        let case = (place, (kind, input, results));
+        let most = match number {
+            0 => 3,
+            6 | 17 | 18 => 1, // many sorts
+            _ => 2,
+        };
+        if all.iter().any(|sort| seen.get(sort).is_none_or(|times| *times < most)) {
+            all.into_iter().for_each(|sort| *seen.entry(sort).or_insert(0) += 1);
+            cases.push(case);
+        } else if number == 0 {
+            rest.push(case);
+        }
+    }
+    assert!(cases.len() <= count, "{name}: {} cases", cases.len());
+    rest.truncate(count - cases.len());
+    cases.extend(rest);
+    cases.sort_by_key(|case| case.0);
+    cases.into_iter().map(|case| case.1).collect()
+}
+
+/// Whether the program in Rattle has room for the case.
+fn is_small(asked: &Asked) -> bool {
+    let (m, s) = (&asked.mesh, &asked.store);
+    let at_most = |columns: [usize; 3], most: usize| columns.iter().all(|length| *length <= most);
+    at_most([m.x.len(), m.y.len(), m.z.len()], 9)
+        && at_most([m.a.len(), m.b.len(), m.c.len()], 12)
+        && at_most([s.x.len(), s.y.len(), s.z.len()], 74)
+        && at_most([s.marks.len(), s.names.len() / 8, 0], 9)
+        && asked.given.as_ref().is_none_or(|(_, cells)| cells.len() <= 82)
 }
 
 /// The length of what a case has lent that is not among its words: the matrix or map whose row it asks for, or a file's bytes.
@@ -163,6 +224,36 @@ fn long_file() -> Case {
     answered("write_file", Out::default().mesh(&mesh).size(length), 0)
 }
 
+/// Returns of 40 and 60 nodes, from a fresh matrix and from any numbers, and number 11 of each call.
+fn large_shapes() -> Vec<Case> {
+    let (input, name) = (Out::default, *b"as cast\0");
+    let mut r = Rng(SEED);
+    let mut cases = vec![];
+    for (nodes, rule) in [(40, 2), (60, 5)] {
+        let cast = meshes::sheet(&mut r, nodes);
+        let mut bent = cast.clone();
+        shift(&mut r, &mut bent, 3);
+        let given = match rule {
+            2 => calls::matrix(rule, &bent, nodes * nodes).expect("an accepted mesh"),
+            _ => values(&mut r, nodes * nodes),
+        };
+        let store = store_of(nodes, &[(*b"bent    ", &bent), (name, &cast)]);
+        let input = input().word(rule).mesh(&bent).numbers(&given);
+        cases.push(answered("return_shape", input.store(&store).name(name), 0));
+    }
+    let (mesh, store) = (filled(calls::MAX_NODES + 1, 1), store_of(3, &[]));
+    cases.extend([
+        answered("save_shape", input().mesh(&mesh).store(&store).name(name), 11),
+        answered("drop_shape", input().mesh(&mesh).store(&store).name(name), 11),
+        answered(
+            "return_shape",
+            input().word(3).mesh(&mesh).numbers(&[]).store(&store).name(name),
+            11,
+        ),
+    ]);
+    cases
+}
+
 /// The first of the cases of a kind that have the most results, with the lowest bit of its last result flipped: who compares
 /// must find that it differs.
 fn wrong(cases: &[Case], kind: &str) -> Case {
@@ -173,6 +264,8 @@ fn wrong(cases: &[Case], kind: &str) -> Case {
         .find(|case| Some(case.2.len()) == most)
         .expect("a case of that kind")
         .clone();
-    *case.2.last_mut().expect("a result") ^= 1;
+    let last = case.2.last_mut().expect("a result");
+    assert!(!f64::from_bits(*last).is_nan(), "every NaN is one number");
+    *last ^= 1;
     case
 }

@@ -7,7 +7,7 @@ use denote.Ref.{now}
 use lib.ListN.{length}
 use Rattle.linkage.specs.Energy.{rowsAdded}
 use Rattle.linkage.proofs.Sums.{rows-more}
-use Rattle.linkage.proofs.Sizes.{row-end, stretch-long}
+use Rattle.lists.proofs.Stretches.{row-end, stretch-long}
 use Rattle.linkage.proofs.energy.add_rows.Statement.{statement}
 use Rattle.linkage.proofs.energy.add_rows.Tie as tie
 

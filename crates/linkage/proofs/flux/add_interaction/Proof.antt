@@ -8,7 +8,7 @@ use lib.ListN.{length}
 use Rattle.linkage.specs.Flux.{interactionTo}
 use Rattle.lists.specs.Sums.{runningSum}
 use Rattle.lists.proofs.Sums.{sum-more}
-use Rattle.linkage.proofs.Sizes.{row-end}
+use Rattle.lists.proofs.Stretches.{row-end}
 use Rattle.linkage.proofs.flux.add_interaction.Statement.{statement}
 use Rattle.linkage.proofs.flux.add_interaction.Tie as tie
 

@@ -7,7 +7,7 @@ use denote.Ref.{now}
 use lib.ListN.{length}
 use Rattle.lists.proofs.Runs.{RunTo, begun, front-further, filled-whole}
 use Rattle.linkage.specs.Flux.{rowFlux}
-use Rattle.linkage.proofs.Sizes.{row-end}
+use Rattle.lists.proofs.Stretches.{row-end}
 use Rattle.linkage.proofs.flux.fill_flux.Statement.{statement}
 use Rattle.linkage.proofs.flux.fill_flux.Tie as tie
 

@@ -1,5 +1,5 @@
 -- The row is a stretch of the map that is as long as the coefficients.
-use Rattle.linkage.proofs.Sizes.{stretch-long}
+use Rattle.lists.proofs.Stretches.{stretch-long}
 use borrow.Author.Needs.{needs}
 use Rattle.linkage.proofs.flux.row_flux.Statement.{statement}
 use Rattle.linkage.proofs.flux.row_flux.Tie as tie

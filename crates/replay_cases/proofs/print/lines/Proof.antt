@@ -9,10 +9,10 @@ use Rattle.replay_cases.proofs.print.lines.Statement.{statement}
 use Rattle.replay_cases.proofs.print.lines.Tie as tie
 
 abbrev Inv-loop : tie.InvT-loop
-Inv-loop names cases differ sum₀ k₀ sum k = (k ≤ 64) × (sum ≡ total differ k)
+Inv-loop names cases differ sum₀ k₀ sum k = (k ≤ 128) × (sum ≡ total differ k)
 
 abbrev μ-loop : tie.MeasureT-loop
-μ-loop names cases differ sum₀ k₀ sum k = 64 - k
+μ-loop names cases differ sum₀ k₀ sum k = 128 - k
 
 loop-holds : tie.Need-loop-holds Inv-loop μ-loop
 unfolding total
@@ -26,7 +26,7 @@ loop-again c =
 returns : tie.Need-returns Inv-loop μ-loop
 returns c =
     let l = c .before .loop in
-    let e : l .k ≡ 64 = omega arith in
+    let e : l .k ≡ 128 = omega arith in
     rw (← e) (l .inv .1)
 
 pub lines-spec : {M : Type 1} → statement M

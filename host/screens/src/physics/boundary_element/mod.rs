@@ -4,6 +4,7 @@ mod current_density;
 mod inductance;
 mod linkage;
 mod pair;
+mod shapes;
 mod triangle_potential;
 
 pub use crate::mesh::elements::tri::mapping::{
@@ -27,4 +28,5 @@ pub use pair::{
     is_far, longest_edge_bisection, triangle_aabb_distance_squared, triangle_distance_squared,
     triangle_max_edge_squared, triangles_identical,
 };
+pub use shapes::{drop_shape, return_shape, save_shape};
 pub use triangle_potential::UniformTriangle;

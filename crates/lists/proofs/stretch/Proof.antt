@@ -1,8 +1,8 @@
 -- From start up to start + w are w numbers.
 use native.Mathlib.Nat.{add-sub-cancel-left}
 use borrow.Author.Needs.{needs}
-use Rattle.linkage.proofs.row.stretch.Statement.{statement}
-use Rattle.linkage.proofs.row.stretch.Tie as tie
+use Rattle.lists.proofs.stretch.Statement.{statement}
+use Rattle.lists.proofs.stretch.Tie as tie
 
 returns : tie.Need-returns
 returns c = rw add-sub-cancel-left

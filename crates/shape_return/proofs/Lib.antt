@@ -1,0 +1,5 @@
+pub mod Laws
+pub mod Numbers
+pub mod Refused
+mod Theorems
+mod Examples

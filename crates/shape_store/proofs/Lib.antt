@@ -1,0 +1,5 @@
+pub mod Places
+pub mod Calls
+pub mod Shapes
+mod Theorems
+mod Examples
