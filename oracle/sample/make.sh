@@ -9,6 +9,6 @@ oracle=$here/../build/target/release/oracle
 # The original warns about poor panels on standard error.
 quietly() { "$@" 2> >(grep -v '^warning: .* aspect ratio' >&2); }
 quietly "$oracle" stored "$here"
-for file in calls meshes matrices shapes large; do
+for file in calls meshes matrices returns large; do
   quietly "$oracle" check "$here/$file.bin" 1
 done

@@ -7,6 +7,7 @@ use Rattle.replay_maps.specs.Maps.{mapsAgree, rowsAgree}
 use Rattle.replay_maps.specs.Shown.{shownAgree}
 use Rattle.replay_files.specs.Files.{filesAgree}
 use Rattle.replay_writer.specs.Writer.{writerAgrees}
+use Rattle.replay_shapes.specs.Shapes.{shapesAgree}
 use Rattle.replay_cases.specs.Case.{wordsOf, numbersOf, placesOf}
 
 -- a kind that is none of these agrees with nothing
@@ -15,4 +16,5 @@ agrees kind b =
     let w = wordsOf b in
     let f = numbersOf w in
     let u = placesOf w in
-    meshesAgree kind f u w || (mapsAgree kind f w || (rowsAgree kind f w || (shownAgree kind f w || (filesAgree kind b w || writerAgrees kind b f u w))))
+    let bytes = filesAgree kind b w || (writerAgrees kind b f u w || shapesAgree kind b f u w) in
+    meshesAgree kind f u w || (mapsAgree kind f w || (rowsAgree kind f w || (shownAgree kind f w || bytes)))

@@ -21,5 +21,6 @@ pub fn agrees(kind: u64, b: &[u8; 16384]) -> bool
     let e = shown::agree(kind, &f, &w);
     let g = replay_files::agree(kind, b, &w);
     let h = replay_writer::agree(kind, b, &f, &u, &w);
-    (a) | ((c) | ((d) | ((e) | ((g) | (h)))))
+    let s = replay_shapes::agree(kind, b, &f, &u, &w);
+    (a) | ((c) | ((d) | ((e) | ((g) | ((h) | (s))))))
 }

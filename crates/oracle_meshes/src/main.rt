@@ -1,5 +1,6 @@
-// Replays stored answers of the original: meshes without their matrix, rows, energies and maps, display values and panel files. Each case is
-// worked out by ours and every number is compared, in bits. A case of another kind differs.
+// Replays stored answers of the original: meshes without their matrix, rows, energies and maps, display values, panel
+// files, and shapes that are saved and dropped. Each case is worked out by ours and every number is compared, in bits. A
+// case of another kind differs.
 mod kinds;
 
 ghost use mathlib.Core.Path.{_≡_};

@@ -12,6 +12,13 @@ ghost use Rattle.shape_return.specs.Return.{nodesOf, lentScreen, MarksDi
 use tri::quadrature::QuadratureKind;
 use tri::quadrature::Rule;
 
+// Two coordinates are one number: +0 and −0 are not, NaN and NaN are.
+fn same_number(v: f64, w: f64) -> bool
+    ensures { λ r. ⌜ r ≡ Spec.sameNumber v w ⌝ }
+{
+    ieee754::canonical_bits(v) == ieee754::canonical_bits(w)
+}
+
 // A node's coordinates are other numbers in the shape.
 fn node_differs(
     x: &[f64],
@@ -26,9 +33,9 @@ fn node_differs(
     requires { ⌜ (a < length (now px)) × (a < length (now py)) × (a < length (now pz)) ⌝ }
     ensures { λ r. ⌜ r ≡ Spec.differs (nodesOf (passed x) (passed y) (passed z)) (nodesOf (passed px) (passed py) (passed pz)) a ⌝ }
 {
-    (ieee754::canonical_bits(x[a]) != ieee754::canonical_bits(px[a]))
-        | ((ieee754::canonical_bits(y[a]) != ieee754::canonical_bits(py[a]))
-            | (ieee754::canonical_bits(z[a]) != ieee754::canonical_bits(pz[a])))
+    let p = mesh::node(x, y, z, a);
+    let q = mesh::node(px, py, pz, a);
+    !same_number(p[0], q[0]) | (!same_number(p[1], q[1]) | !same_number(p[2], q[2]))
 }
 
 // The nodes that differ are marked.

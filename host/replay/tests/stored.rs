@@ -68,7 +68,7 @@ const FILES: [(&str, &str); 5] = [
     ("calls", "gradient"),
     ("meshes", "densities"),
     ("matrices", "matrix"),
-    ("shapes", "return_shape"),
+    ("returns", "return_shape"),
     ("large", "move"),
 ];
 

@@ -1,21 +1,26 @@
--- The three tests of the definition, each on the canonical bits of two numbers.
+-- The three tests of the definition, a call each.
 use borrow.Author.Needs.{needs}
 use Rattle.shape_return.specs.Return.{differs}
 use Rattle.shape_return.proofs.node_differs.Statement.{statement}
 use Rattle.shape_return.proofs.node_differs.Tie as tie
 
+node-requires : tie.Need-node-requires
+node-requires c κs = let c4 = c .before .before .before .before in c4 .before .before .pre .0
+
+node-requires-2 : tie.Need-node-requires-2
+node-requires-2 c κs = let c4 = c .before .before .before .before in c4 .before .before .before .pre .1
+
 returns : tie.Need-returns
 unfolding differs
 returns c =
-    let c4 = c .before .before .before .before in
-    let c8 = c4 .before .before .before .before in
-    let c10 = c8 .before .before in
-    let p = c4 .before .before .canonical-bits3 .ensures in
-    let q = c4 .canonical-bits4 .ensures in
-    rw (c .canonical-bits6 .ensures, c .before .before .canonical-bits5 .ensures, q, p, c8 .canonical-bits2 .ensures, c10 .canonical-bits .ensures)
+    let c3 = c .before .before .before in
+    rw (c .same-number3 .ensures, c .before .same-number2 .ensures, c .before .before .same-number .ensures, c3 .node2 .ensures, c3 .before .node .ensures)
 
 pub node-differs-spec : {M : Type 1} → statement M
 node-differs-spec =
     tie.close
-    (tie.spec (search needs) (search needs) (search needs) (search needs) (search needs) (search needs) (search needs) (search needs) (search needs)
-    (search needs) (search needs) (search needs) (search needs) (search needs) (search needs) (search needs) (search needs) (search needs) returns)
+    (tie.spec node-requires node-requires-2
+    (search needs) (search needs) (λ c κs. tt)
+    (search needs) (search needs) (λ c κs. tt)
+    (search needs) (search needs) (λ c κs. tt)
+    returns)

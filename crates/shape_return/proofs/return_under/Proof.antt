@@ -1,7 +1,6 @@
 -- A refusal leaves everything as it was; a return that is done has both shapes accepted, and its own claim is that of the call.
 use mathlib.Core.Path.{_≡_, refl, sym, ap, _∙_, subst}
 use Prim.Native.Nat.{ℕ, _+_, _*_, _<_, _≤_}
-use borrow.Author.Needs.{needs}
 use denote.Ref.{now}
 use lib.ListN.{length}
 use Rattle.lists.specs.Stretch.{stretch}
@@ -107,11 +106,26 @@ held c =
       shape-numbers (lent s) (store s) p (c4 .before .before .before .shared-slice-known6 .given) (c4 .before .before .shared-slice-known7 .given) (c4 .before .shared-slice-known8 .given),
     )
 
+-- the call, seen from the end, and that it left the buffers as long as they were
+abbrev restored : tie.After-slice-known8 → tie.After-restore
+restored c = let c4 = c .before .before .before .before in c4 .before .before .before .before
+
+x-long : tie.Need-same-length-4
+x-long c = restored c .restore .kept .1 .0
+
+y-long : tie.Need-same-length-5
+y-long c = restored c .restore .kept .1 .1 .0
+
+z-long : tie.Need-same-length-6
+z-long c = restored c .restore .kept .1 .1 .1 .0
+
+out-long : tie.Need-same-length-7
+out-long c = restored c .restore .kept .1 .1 .1 .1 .1 .1 .1 .0
+
 returns-2 : tie.Need-returns-2
 returns-2 c =
-    let c4 = c .before .before .before .before in
-    let c8 = c4 .before .before .before .before in
-    let c12 = c8 .before .before .before .before in
+    let d = restored c in
+    let c12 = d .before .before .before .before in
     let b = c12 .before .before .before .before .before in
     let s = entry b in
     let a = s .args in
@@ -120,9 +134,9 @@ returns-2 c =
     let m₁ = shape s in
     let h = held b in
     let law = return-fresh f (lent s) m₁ (return-changes (lent s) m₁ (h .0) (h .1) refl refl refl) (as-many b) in
-    claim-done Unit (cell f) (matrix f) _ (lent s) (store s) w (now (a .out)) (due-under (lent s) (store s) w _) _ _ _ (cell-turned f m₁) law (sym (b .if1 .left) ∙ b .before .return-refusal .ensures) (done-as (stretched (c12 .before)) (c8 .restore .ensures))
+    claim-done Unit (cell f) (matrix f) _ (lent s) (store s) w (now (a .out)) (due-under (lent s) (store s) w _) _ _ _ (cell-turned f m₁) law (sym (b .if1 .left) ∙ b .before .return-refusal .ensures) (done-as (stretched (c12 .before)) (d .restore .ensures))
 
 pub return-under-spec : {M : Type 1} → statement M
 return-under-spec =
     tie.close
-    (tie.spec (search needs) (search needs) (search needs) (search needs) returns find-name-requires stretch-requires stretch-requires-2 stretch-requires-3 restore-requires (search needs) (search needs) (search needs) (search needs) returns-2)
+    (tie.spec (λ c κs. tt) (λ c. refl) (λ c. refl) (λ c. refl) returns find-name-requires stretch-requires stretch-requires-2 stretch-requires-3 restore-requires x-long y-long z-long out-long returns-2)

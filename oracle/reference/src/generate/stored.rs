@@ -35,8 +35,10 @@ const MESHES: [&str; 13] = [
 ];
 /// What `oracle_matrices` replays.
 const MATRICES: [&str; 2] = ["matrix", "move"];
-/// What `oracle_shapes` replays, and how many cases there are of each.
-const SHAPES: [(&str, usize); 3] = [("save_shape", 60), ("drop_shape", 50), ("return_shape", 70)];
+/// What `oracle_meshes` replays of a store of shapes, and how many cases there are of each.
+const SHAPES: [(&str, usize); 2] = [("save_shape", 60), ("drop_shape", 50)];
+/// What `oracle_returns` replays, and how many cases there are.
+const RETURN: (&str, usize) = ("return_shape", 70);
 /// What is no call.
 const LEFT_OUT: [&str; 1] = ["steps"];
 
@@ -45,16 +47,17 @@ pub type Case = (u32, Vec<u64>, Vec<u64>);
 
 /// The files by their names. The last case of each is wrong.
 pub fn files() -> Vec<(&'static str, Vec<Case>)> {
-    let shape = |name: &str| SHAPES.iter().any(|(kind, _)| *kind == name);
+    let shape = |name: &str| SHAPES.iter().any(|(kind, _)| *kind == name) || name == RETURN.0;
     let elsewhere = |name: &&str| MESHES.contains(name) || MATRICES.contains(name) || LEFT_OUT.contains(name);
     let other = |name: &&str| !elsewhere(name) && !shape(name);
     let fixed: Vec<&str> = eval::NAMES.into_iter().filter(other).collect();
     let calls = small(&fixed);
     let mut meshes = small(&MESHES);
     meshes.push(answered("read_file", zero_area(), 4));
+    meshes.extend(SHAPES.into_iter().flat_map(|(name, count)| told_apart(name, count)));
     let mut matrices = small(&MATRICES);
     matrices.extend(larger(&[20, 21, 22, 23, 24], 2));
-    let shapes = SHAPES.into_iter().flat_map(|(name, count)| told_apart(name, count));
+    let returns = told_apart(RETURN.0, RETURN.1);
     let mut large = larger(&[28, 36, 44, 52, 60], 1);
     large.extend(too_large());
     large.push(long_file());
@@ -63,7 +66,7 @@ pub fn files() -> Vec<(&'static str, Vec<Case>)> {
         ("calls", calls, "gradient"),
         ("meshes", meshes, "densities"),
         ("matrices", matrices, "matrix"),
-        ("shapes", shapes.collect(), "return_shape"),
+        ("returns", returns, "return_shape"),
         ("large", large, "move"),
     ];
     let mut ended = vec![];

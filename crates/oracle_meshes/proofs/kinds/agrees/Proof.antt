@@ -11,20 +11,23 @@ returns c =
     let c12 = c8 .before .before .before .before in
     let c16 = c12 .before .before .before .before in
     let c20 = c16 .before .before .before .before in
+    let c24 = c20 .before .before .before .before in
     rw (
-      ← c20 .before .before .before .words .ensures,
-      ← c20 .before .numbers .ensures,
-      ← c16 .before .before .before .places .ensures,
-      ← c12 .before .before .before .agree .ensures,
-      ← c12 .agree2 .ensures,
-      ← c8 .before .agree3 .ensures,
-      ← c4 .before .before .agree4 .ensures,
-      ← c4 .agree5 .ensures,
-      ← c .agree6 .ensures,
+      ← c24 .before .before .before .words .ensures,
+      ← c24 .before .numbers .ensures,
+      ← c20 .before .before .before .places .ensures,
+      ← c16 .before .before .before .agree .ensures,
+      ← c16 .agree2 .ensures,
+      ← c12 .before .agree3 .ensures,
+      ← c8 .before .before .agree4 .ensures,
+      ← c8 .agree5 .ensures,
+      ← c4 .agree6 .ensures,
+      ← c .agree7 .ensures,
     )
 
 pub agrees-spec : {M : Type 1} → statement M
 agrees-spec =
     tie.close
     (tie.spec
-    (λ c κs. tt) (λ c κs. tt) (λ c κs. tt) (λ c κs. tt) (λ c κs. tt) (λ c κs. tt) (λ c κs. tt) (λ c κs. tt) (λ c κs. tt) returns)
+    (λ c κs. tt) (λ c κs. tt) (λ c κs. tt) (λ c κs. tt) (λ c κs. tt) (λ c κs. tt) (λ c κs. tt) (λ c κs. tt) (λ c κs. tt) (λ c κs. tt)
+    returns)

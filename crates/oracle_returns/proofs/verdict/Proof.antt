@@ -1,6 +1,6 @@
 -- The count's contract, with what the kinds' says.
-use Rattle.oracle_shapes.proofs.verdict.Statement.{statement}
-use Rattle.oracle_shapes.proofs.verdict.Tie as tie
+use Rattle.oracle_returns.proofs.verdict.Statement.{statement}
+use Rattle.oracle_returns.proofs.verdict.Tie as tie
 
 returns : tie.Need-returns
 returns c = (c .count .ensures .0, rw (← c .before .before .before .agrees .ensures) (c .count .ensures .1))

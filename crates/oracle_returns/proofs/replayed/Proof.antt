@@ -1,8 +1,8 @@
 -- The kind is below 128 by the test; then the verdict's contract.
 use Rattle.replay_cases.proofs.Turns.{no-turn, a-turn}
-use Rattle.oracle_shapes.specs.Kinds.{agrees}
-use Rattle.oracle_shapes.proofs.replayed.Statement.{statement}
-use Rattle.oracle_shapes.proofs.replayed.Tie as tie
+use Rattle.oracle_returns.specs.Kinds.{agrees}
+use Rattle.oracle_returns.proofs.replayed.Statement.{statement}
+use Rattle.oracle_returns.proofs.replayed.Tie as tie
 
 returns : tie.Need-returns
 returns c = no-turn agrees _ _

@@ -1,7 +1,7 @@
 -- The loop counts down.
 use Rattle.replay_cases.proofs.Turns.{Left, all-left, one-less, still-left}
-use Rattle.oracle_shapes.proofs.main.Statement.{statement}
-use Rattle.oracle_shapes.proofs.main.Tie as tie
+use Rattle.oracle_returns.proofs.main.Statement.{statement}
+use Rattle.oracle_returns.proofs.main.Tie as tie
 
 abbrev Inv-loop : tie.InvT-loop
 Inv-loop cases₀ differ₀ left₀ cases differ left = Left left

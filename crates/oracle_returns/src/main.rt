@@ -1,12 +1,12 @@
-// Replays stored answers of the original: shapes that are saved, dropped and returned to. Each case is
-// worked out by ours and every number is compared, in bits. A case of another kind differs.
+// Replays stored answers of the original: returns to named shapes. Each case is worked out by ours and every number is
+// compared, in bits. A case of another kind differs.
 mod kinds;
 
 ghost use mathlib.Core.Path.{_≡_};
 ghost use Prim.Native.Nat.{_<_};
 ghost use Rattle.lists.specs.Lent.{passed, left};
 ghost use Rattle.replay_cases.specs.Tally.{counted, judged, Turn};
-ghost use Rattle.oracle_shapes.specs.Kinds as Spec;
+ghost use Rattle.oracle_returns.specs.Kinds as Spec;
 use replay_cases::input;
 use replay_cases::print;
 use replay_cases::tally;
