@@ -1,6 +1,5 @@
 // The current density of nodal stream-function values: on one panel, and on every panel of a mesh.
 ghost use Rattle.std.specs.Prelude.{◌≡◌, ◌<◌, length, get_or};
-ghost use Rattle.lists.specs.Lent.{passed, left};
 ghost use Rattle.mesh.specs.Mesh.{max_nodes, max_panels, passed_mesh, lent_mesh};
 ghost use Rattle.mesh.specs.Conditions.{Accepted};
 ghost use Rattle.boundary_element.specs.CurrentDensity as Spec;
@@ -55,7 +54,7 @@ pub fn triangle_current_density(t: [[f64; 3]; 3], s: [f64; 3]) -> [f64; 3]
 // The nodal values at three nodes.
 fn triangle_scalars(indices: [usize; 3], s: &[f64]) -> [f64; 3]
     requires { (get_or indices 0 0 < length s.now) × (get_or indices 1 0 < length s.now) × (get_or indices 2 0 < length s.now) }
-    ensures { result ≡ Spec.triangle_scalars indices (passed s) }
+    ensures { result ≡ Spec.triangle_scalars indices s.now }
 {
     [s[indices[0]], s[indices[1]], s[indices[2]]]
 }
@@ -73,7 +72,7 @@ fn panel_density(
 ) -> [f64; 3]
     requires accepted { Accepted max_nodes max_panels (lent_mesh x y z t0 t1 t2) }
     requires s_len { (length s.now ≡ length x.now) × (i < length t0.now) }
-    ensures { result ≡ Spec.panel_density (passed_mesh x y z t0 t1 t2) (passed s) i }
+    ensures { result ≡ Spec.panel_density (passed_mesh x y z t0 t1 t2) s.now i }
 {
     let t = mesh::triangle_nodes(x, y, z, t0, t1, t2, i);
     let v = triangle_scalars(mesh::triangle_indices(t0, t1, t2, i), s);
@@ -83,7 +82,7 @@ fn panel_density(
 // A vector's components, each into its column at i.
 pub fn store3(a: &mut [f64], b: &mut [f64], c: &mut [f64], i: usize, v: [f64; 3])
     requires { (i < length a.old) × (i < length b.old) × (i < length c.old) }
-    ensures { Stored (passed a) (passed b) (passed c) i v (left a) (left b) (left c) }
+    ensures { Stored a.old b.old c.old i v a.new b.new c.new }
 {
     a[i] = v[0];
     b[i] = v[1];
@@ -104,7 +103,7 @@ fn fill_densities(
     jz: &mut [f64],
 )
     requires { DensityReady (lent_mesh x y z t0 t1 t2) s.now jx.old jy.old jz.old }
-    ensures { Spec.Currents (passed_mesh x y z t0 t1 t2) (passed s) (left jx) (left jy) (left jz) }
+    ensures { Spec.Currents (passed_mesh x y z t0 t1 t2) s.now jx.new jy.new jz.new }
 {
     let mut i = 0;
     while i < t0.len() {
@@ -154,7 +153,7 @@ pub fn triangle_mesh_current_density(
     jy: &mut [f64],
     jz: &mut [f64],
 ) -> u32
-    ensures { Densities (passed_mesh x y z t0 t1 t2) (passed s) (passed jx) (passed jy) (passed jz) result (left jx) (left jy) (left jz) }
+    ensures { Densities (passed_mesh x y z t0 t1 t2) s.now jx.old jy.old jz.old result jx.new jy.new jz.new }
 {
     let refusal = density_refusal(x, y, z, t0, t1, t2, s.len(), jx.len(), jy.len(), jz.len());
     if refusal != 0 {

@@ -1,4 +1,6 @@
 // boundary_element/mod.rs: current densities, quadrature points, and whether two panels are one.
+#![tactic(auto)]
+
 pub mod current_density;
 pub mod identity;
 

@@ -1,6 +1,7 @@
 // Panels' own numbers, worked out once and cached in one array.
+#![tactic(auto)]
+
 ghost use Rattle.std.specs.Prelude.{◌≡◌, [], ◌∷◌, ◌<◌, ◌≤◌, ◌+◌, ◌*◌, length};
-ghost use Rattle.lists.specs.Lent.{passed, left};
 ghost use Rattle.binary64.specs.Binary64.{at};
 ghost use Rattle.lists.specs.Filling.{run};
 ghost use Rattle.mesh.specs.Mesh.{triangle_nodes, passed_mesh, lent_mesh};
@@ -41,7 +42,7 @@ fn flat(p: Panel) -> [f64; PANEL_NUMBERS]
 // A panel's numbers into the array from `base` up.
 fn store(cache: &mut [f64], base: usize, v: [f64; PANEL_NUMBERS])
     requires { base + panel_number_count ≤ length cache.old }
-    ensures { left cache ≡ run (passed cache) base panel_number_count (at v) panel_number_count }
+    ensures { cache.new ≡ run cache.old base panel_number_count (at v) panel_number_count }
 {
     let mut k = 0;
     while k < PANEL_NUMBERS {
@@ -64,7 +65,7 @@ pub fn cache_panels(
     requires panel_columns_alike { PanelColumnsAlike (lent_mesh x y z t0 t1 t2) }
     requires none_missing { NoneMissing (lent_mesh x y z t0 t1 t2) }
     requires panel_number_count_in_bounds { length t0.now * panel_number_count ≤ length cache.old }
-    ensures { Spec.Cached (length (passed t0)) (passed_mesh x y z t0 t1 t2) (left cache) }
+    ensures { Spec.Cached (length t0.now) (passed_mesh x y z t0 t1 t2) cache.new }
 {
     let mut j = 0;
     while j < t0.len() {
@@ -78,7 +79,7 @@ pub fn cache_panels(
 // Three numbers from `base + o` up.
 fn vector_at(cache: &[f64], base: usize, o: usize) -> [f64; 3]
     requires { (base + panel_number_count ≤ length cache.now) × (o ≤ 14) }
-    ensures { result ≡ at (passed cache) (base + o) ∷ at (passed cache) (base + (o + 1)) ∷ at (passed cache) (base + (o + 2)) ∷ [] }
+    ensures { result ≡ at cache.now (base + o) ∷ at cache.now (base + (o + 1)) ∷ at cache.now (base + (o + 2)) ∷ [] }
 {
     [
         cache[base + o],

@@ -7,7 +7,7 @@ use crate::coupling::{geometric_coupling, geometric_coupling_regular};
 use refusal::Answer;
 use tri::quadrature::{Rule, quadrature_rule};
 
-#[derive(Drop)]
+#[derive(Clone, Copy)]
 pub struct BlockAnswer {
     pub refusal: u32,
     pub values: [f64; 9],

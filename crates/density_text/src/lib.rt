@@ -1,6 +1,7 @@
 // Program `density` as a function from bytes to bytes: what it prints for its standard input.
+#![tactic(auto)]
+
 ghost use Rattle.std.specs.Prelude.{◌≡◌, ◌+◌, ◌*◌, ◌≤◌, ◌<◌, length};
-ghost use Rattle.lists.specs.Lent.{passed, left};
 ghost use Rattle.lists.specs.Putting.{Put};
 ghost use Rattle.io.specs.Counts.{IsPrefixLen};
 ghost use Rattle.boundary_element.specs.CurrentDensity.{panel_density};
@@ -19,7 +20,7 @@ const MAX_PANELS: usize = 128;
 // A number below 1,000 in decimal.
 fn put_decimal(out: &mut [u8], from: usize, n: usize) -> usize
     requires { (n < 1000) × (from + 3 ≤ length out.old) }
-    ensures { Put (passed out) from (Spec.decimal n) (left out) result }
+    ensures { Put out.old from (Spec.decimal n) out.new result }
 {
     let mut digits = [0u8; 20];
     let k = io::decimal(n as u64, &mut digits);
@@ -29,7 +30,7 @@ fn put_decimal(out: &mut [u8], from: usize, n: usize) -> usize
 // A space and a number's bits.
 fn put_field(out: &mut [u8], from: usize, x: f64) -> usize
     requires { from + 17 ≤ length out.old }
-    ensures { Put (passed out) from (Spec.field x) (left out) result }
+    ensures { Put out.old from (Spec.field x) out.new result }
 {
     let mut digits = [0u8; 16];
     let k = io::hex(ieee754::canonical_bits(x), 16, &mut digits);
@@ -40,7 +41,7 @@ fn put_field(out: &mut [u8], from: usize, x: f64) -> usize
 // The density of panel i of an accepted input.
 fn density(bytes: &[u8], n: usize, p: usize, i: usize) -> [f64; 3]
     requires { Input n p bytes.now × (i < p) }
-    ensures { result ≡ panel_density (decode (passed bytes)) (Spec.nodal_values (passed bytes)) i }
+    ensures { result ≡ panel_density (decode bytes.now) (Spec.nodal_values bytes.now) i }
 {
     let t = panel_file::triangle_nodes(bytes, n, i);
     let k = panel_file::triangle_indices(bytes, n, i);
@@ -53,7 +54,7 @@ fn density(bytes: &[u8], n: usize, p: usize, i: usize) -> [f64; 3]
 // A panel's line, of at most 55 bytes.
 fn put_panel(out: &mut [u8], from: usize, i: usize, j: [f64; 3]) -> usize
     requires { (i < 1000) × (from + 55 ≤ length out.old) }
-    ensures { Put (passed out) from (Spec.line i j) (left out) result }
+    ensures { Put out.old from (Spec.line i j) out.new result }
 {
     let a = put_decimal(out, from, i);
     let b = put_field(out, a, j[0]);
@@ -65,7 +66,7 @@ fn put_panel(out: &mut [u8], from: usize, i: usize, j: [f64; 3]) -> usize
 // Every panel's line.
 fn put_panels(out: &mut [u8], from: usize, bytes: &[u8], n: usize, p: usize) -> usize
     requires { Input n p bytes.now × (p ≤ 128) × (from + p * 55 ≤ length out.old) }
-    ensures { Put (passed out) from (rows_from (Spec.panel_line (passed bytes)) 0 p) (left out) result }
+    ensures { Put out.old from (rows_from (Spec.panel_line bytes.now) 0 p) out.new result }
 {
     let mut to = from;
     let mut i = 0;
@@ -79,7 +80,7 @@ fn put_panels(out: &mut [u8], from: usize, bytes: &[u8], n: usize, p: usize) -> 
 // The line of a refusal.
 fn put_refused(out: &mut [u8], refusal: u32) -> usize
     requires { (refusal < 1000) × (12 ≤ length out.old) }
-    ensures { Put (passed out) 0 (Spec.refused_line refusal) (left out) result }
+    ensures { Put out.old 0 (Spec.refused_line refusal) out.new result }
 {
     let a = put(out, 0, b"refused ");
     let b = put_decimal(out, a, refusal as usize);
@@ -89,7 +90,7 @@ fn put_refused(out: &mut [u8], refusal: u32) -> usize
 // Line one, of at most 14 bytes.
 fn put_first(out: &mut [u8], n: usize, p: usize) -> usize
     requires { (n < 1000) × (p < 1000) × (14 ≤ length out.old) }
-    ensures { Put (passed out) 0 (Spec.first_line n p) (left out) result }
+    ensures { Put out.old 0 (Spec.first_line n p) out.new result }
 {
     let a = put(out, 0, b"PNL 1 ");
     let b = put_decimal(out, a, n);
@@ -102,8 +103,8 @@ fn put_first(out: &mut [u8], n: usize, p: usize) -> usize
 // Line one and 128 panel lines have at most 7,054.
 pub fn density_text(bytes: &[u8], out: &mut [u8]) -> usize
     requires { 7054 ≤ length out.old }
-    ensures put { Put (passed out) 0 (Spec.text (passed bytes)) (left out) result }
-    ensures prefix_len { IsPrefixLen result (left out) }
+    ensures put { Put out.old 0 (Spec.text bytes.now) out.new result }
+    ensures prefix_len { IsPrefixLen result out.new }
 {
     let refusal = panel_file::file_refusal(MAX_NODES, MAX_PANELS, 1, bytes);
     if refusal != 0 {

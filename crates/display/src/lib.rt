@@ -1,5 +1,7 @@
 // Document 01's display value: whole nanohenries, rounded once from the exact value, by CR 4 a half
 // to the even one.
+#![tactic(auto)]
+
 ghost use Rattle.std.specs.Prelude.{◌≡◌, ◌*◌, ◌^◌, ◌≤◌, ◌<◌};
 ghost use Rattle.fused_integer.specs.Jam.{Jam};
 ghost use Rattle.display.specs.Display as Spec;
@@ -59,7 +61,7 @@ fn with_sign(negative: bool, size: u64) -> i64
 }
 
 // The answer: the number, and the whole nanohenries, 0 on a refusal.
-#[derive(Drop)]
+#[derive(Clone, Copy)]
 pub struct Shown {
     pub refusal: u32,
     pub value: i64,

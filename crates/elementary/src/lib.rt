@@ -1,5 +1,7 @@
 // Document 01, "Arithmetic under the physics": the stand-ins ln, asinh and atan2, in single rounded
 // operations in the order written there.
+#![tactic(auto)]
+
 ghost use Rattle.std.specs.Prelude.{◌≡◌, ◌+◌, ◌-◌, ◌*◌, ◌≤◌, ◌<◌};
 ghost use Rattle.std.proofs.Math.IntN.{sub_ℕ};
 ghost use Rattle.std.specs.Float.{binary64};

@@ -1,6 +1,8 @@
 // asinh of fourteen numbers at once and atan2 of seven pairs, in loops over arrays without a branch, which the compiler
 // lays out in lanes. A lane of asinh reads significand and exponent off the pattern of 1 + w. A lane gives NaN where it
 // does not hold, and then the function of one number answers.
+#![tactic(auto)]
+
 ghost use Rattle.std.specs.Prelude.{cond, false, ◌≡◌, ℕ, ◌≤◌, ◌<◌};
 ghost use Rattle.std.proofs.Math.IntN.{sub_ℕ};
 ghost use Rattle.std.specs.Float.{binary64};

@@ -1,5 +1,7 @@
 // IEEE 754's fusedMultiplyAdd on f64 of numbers, guided by the hardware's sum with two roundings: that says where the exact
 // sum's leading digit should be. Where it says wrong, or a value is out of reach, the integer form answers.
+#![tactic(auto)]
+
 ghost use Rattle.std.specs.Prelude.{◌≡◌, ◌+◌, ◌-◌, ◌*◌, ◌%◌, ◌^◌, ◌<◌, ◌≤◌, true, false, not, T, if◌then◌else◌, is_nan, nat_le};
 ghost use Rattle.std.specs.Float.Ieee.Nearest.{closest};
 ghost use Rattle.binary64.specs.Operations.{fma};
@@ -24,7 +26,7 @@ const CUT_BIAS: u64 = 1020;
 const HALF_FIELD: u64 = 0x8_0000_0000_0000;
 
 // The bits of a result, or of a significand, where `ok`; where not, `sig` is not read.
-#[derive(Drop)]
+#[derive(Clone, Copy)]
 struct Attempt {
     ok: bool,
     sig: u64,

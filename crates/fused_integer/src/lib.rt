@@ -1,5 +1,7 @@
 // IEEE 754's fusedMultiplyAdd on f64 by whole numbers, for every input: the exact product and the addend in words of one
 // unit, the smaller cut with a sticky bit, one rounding at the end.
+#![tactic(auto)]
+
 ghost use Rattle.std.specs.Prelude.{◌≡◌, ◌+◌, ◌-◌, ◌*◌, ◌/◌, ◌%◌, ◌^◌, ◌<◌, ◌≤◌, true, false, not, T, if◌then◌else◌, ◌≢◌, is_nan, nat_le, to_bits};
 ghost use Rattle.std.specs.Bool.{beq};
 ghost use Rattle.std.specs.Float.{binary64};
@@ -24,7 +26,7 @@ const NORMAL_FROM: u64 = 1127;
 // ---- words
 
 // hi * 2 ^ 64 + lo
-#[derive(Drop)]
+#[derive(Clone, Copy)]
 pub struct Wide {
     pub hi: u64,
     pub lo: u64,
@@ -32,14 +34,14 @@ pub struct Wide {
 
 // A significand with its leading bit at place 63, and its exponent: sig * 2 ^ exp / 2 ^ 64, in a unit that its
 // maker says.
-#[derive(Drop)]
+#[derive(Clone, Copy)]
 struct Part {
     sig: u64,
     exp: u64,
 }
 
 // (hi * 2 ^ 64 + lo) * 2 ^ exp / 2 ^ 127, with the leading bit at place 126.
-#[derive(Drop)]
+#[derive(Clone, Copy)]
 struct Scaled {
     hi: u64,
     lo: u64,

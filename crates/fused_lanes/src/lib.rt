@@ -1,6 +1,8 @@
 // x * x + z rounded once, by float operations without a branch: a loop over arrays is laid out in lanes. The rounded sum
 // s of the rounded square and z, and what both roundings left off, v, are nearly the exact sum; where s + v is
 // rounded alike with a margin below and above, it is the answer.
+#![tactic(auto)]
+
 ghost use Rattle.std.specs.Prelude.{false, ◌≡◌, ◌≤◌};
 ghost use Rattle.std.specs.Float.Ieee.{is_nan};
 ghost use Rattle.binary64.specs.Format.{infinity_bits};

@@ -1,5 +1,7 @@
 // IEEE 754's fusedMultiplyAdd on f64: x * y + z, rounded once, for every input. `mul_add` and `square_add` answer by three
 // roundings of the hardware, the third of them of the exact residual; where their tests fail the guided and the integer form do.
+#![tactic(auto)]
+
 ghost use Rattle.std.specs.Prelude.{◌≡◌, ◌+◌, ◌*◌, ◌%◌, ◌^◌, ◌<◌, if◌then◌else◌};
 ghost use Rattle.binary64.specs.Operations.{fma};
 ghost use Rattle.fused_integer.specs.Jam.{Jam};

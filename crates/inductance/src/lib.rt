@@ -1,7 +1,8 @@
 // inductance.rs: the nodal inductance matrix of a triangle mesh, and the cells of marked nodes worked out
 // anew. The same loops serve both; cells below the diagonal are copies of those above.
+#![tactic(auto)]
+
 ghost use Rattle.std.specs.Prelude.{◌≡◌};
-ghost use Rattle.lists.specs.Lent.{passed, left};
 ghost use Rattle.mesh.specs.Mesh.{passed_mesh, lent_mesh};
 ghost use Rattle.pair_loops.specs.Ready.{Ready};
 ghost use Rattle.inductance.specs.Assembly.{renewed_under, sized_refusal, Assembled, AssembledUnder};
@@ -21,7 +22,7 @@ pub fn renew(
     out: &mut [f64],
 )
     requires { Ready (lent_mesh x y z t0 t1 t2) out.old marks.now }
-    ensures { left out ≡ renewed_under kind (passed marks) (passed_mesh x y z t0 t1 t2) (passed out) }
+    ensures { out.new ≡ renewed_under kind marks.now (passed_mesh x y z t0 t1 t2) out.old }
 {
     let mut flags = [false; mesh::MAX_PANELS];
     scatter::flag_panels(t0, t1, t2, marks, &mut flags);
@@ -65,7 +66,7 @@ fn matrix_under(
     t2: &[usize],
     out: &mut [f64],
 ) -> u32
-    ensures { AssembledUnder kind (passed_mesh x y z t0 t1 t2) (passed out) result (left out) }
+    ensures { AssembledUnder kind (passed_mesh x y z t0 t1 t2) out.old result out.new }
 {
     let refusal = sized_refusal(x, y, z, t0, t1, t2, out.len());
     if refusal != 0 {
@@ -87,7 +88,7 @@ pub fn triangle_mesh_inductance_matrix(
     t2: &[usize],
     out: &mut [f64],
 ) -> u32
-    ensures { Assembled rule (passed_mesh x y z t0 t1 t2) (passed out) result (left out) }
+    ensures { Assembled rule (passed_mesh x y z t0 t1 t2) out.old result out.new }
 {
     match tri::quadrature::quadrature_rule(rule) {
         Rule::Known(kind) => matrix_under(kind, x, y, z, t0, t1, t2, out),

@@ -1,5 +1,7 @@
 // The length of a vector in two steps: its square by a lane, which has no branch, so that a loop over arrays is laid out in
 // lanes; then the root, with the square anew where the lane did not settle it.
+#![tactic(auto)]
+
 ghost use Rattle.std.specs.Prelude.{◌≡◌, [], ◌∷◌};
 ghost use Rattle.math.specs.Math.{norm3};
 ghost use Rattle.length_lanes.specs.Length as Spec;

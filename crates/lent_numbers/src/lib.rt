@@ -1,7 +1,8 @@
 // What the C interface hands back in one array: a panel's record and the two halves of a triangle as single numbers.
+#![tactic(auto)]
+
 ghost use Rattle.std.specs.Prelude.{◌≡◌, ◌+◌, ◌≤◌, length};
 ghost use Rattle.std.proofs.Math.Seq.{paste};
-ghost use Rattle.lists.specs.Lent.{passed, left};
 ghost use Rattle.lent_numbers.specs.Numbers.{halves_of, record_numbers};
 
 use panel_points::coordinates;
@@ -10,7 +11,7 @@ use potential::UniformTriangle;
 // Puts v into out from `from` on.
 fn put(v: &[f64], from: usize, out: &mut [f64])
     requires { from + length v.now ≤ length out.old }
-    ensures { left out ≡ paste (passed out) from (passed v) (length (passed v)) }
+    ensures { out.new ≡ paste out.old from v.now (length v.now) }
 {
     let mut i = 0;
     while i < v.len() {

@@ -1,6 +1,5 @@
 // A matrix contracted with nodal values.
 ghost use Rattle.std.specs.Prelude.{◌≡◌, ◌<◌, ◌*◌, length};
-ghost use Rattle.lists.specs.Lent.{passed};
 ghost use Rattle.linkage.specs.Energy as Spec;
 
 use refusal::Answer;
@@ -31,7 +30,7 @@ fn vectors_refusal(n: usize, targets: usize, size: usize) -> u32
 // The products of row i, added to x one after the other.
 fn add_row(row: &[f64], s: &[f64], t: &[f64], i: usize, x: f64) -> f64
     requires { (length t.now ≡ length s.now) × (i < length s.now) × (length row.now ≡ length s.now) }
-    ensures { result ≡ Spec.row_added (passed row) (passed s) (passed t) i x (length (passed s)) }
+    ensures { result ≡ Spec.row_added row.now s.now t.now i x (length s.now) }
 {
     let n = s.len();
     let mut out = x;
@@ -44,7 +43,7 @@ fn add_row(row: &[f64], s: &[f64], t: &[f64], i: usize, x: f64) -> f64
 // All rows, one after the other from +0 on.
 fn add_rows(matrix: &[f64], s: &[f64], t: &[f64]) -> f64
     requires { (length t.now ≡ length s.now) × (length matrix.now ≡ length s.now * length s.now) }
-    ensures { result ≡ Spec.from_potential_vectors (passed matrix) (passed s) (passed t) }
+    ensures { result ≡ Spec.from_potential_vectors matrix.now s.now t.now }
 {
     let n = s.len();
     let mut out = 0.0;
@@ -61,7 +60,7 @@ pub fn triangle_mesh_inductance_from_potential_vectors(
     s: &[f64],
     t: &[f64],
 ) -> Answer
-    ensures { Spec.VectorsAnswered (passed matrix) (passed s) (passed t) result.refusal result.value }
+    ensures { Spec.VectorsAnswered matrix.now s.now t.now result.refusal result.value }
 {
     let refusal = vectors_refusal(s.len(), t.len(), matrix.len());
     if refusal != 0 {
@@ -78,7 +77,7 @@ pub fn triangle_mesh_inductance_from_potential_vectors(
 
 // Half of the matrix between s and itself.
 pub fn triangle_mesh_inductive_energy(matrix: &[f64], s: &[f64]) -> Answer
-    ensures { Spec.EnergyAnswered (passed matrix) (passed s) result.refusal result.value }
+    ensures { Spec.EnergyAnswered matrix.now s.now result.refusal result.value }
 {
     let both = triangle_mesh_inductance_from_potential_vectors(matrix, s, s);
     Answer {

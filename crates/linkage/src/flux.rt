@@ -1,6 +1,5 @@
 // A map of one row a node and one column a source, applied to source coefficients.
 ghost use Rattle.std.specs.Prelude.{◌≡◌, ◌<◌, ◌≤◌, ◌+◌, ◌*◌, length};
-ghost use Rattle.lists.specs.Lent.{passed, left};
 ghost use Rattle.linkage.specs.Flux as Spec;
 ghost use Rattle.linkage.specs.Flux.{Linked};
 
@@ -52,7 +51,7 @@ fn map_refusal(size: usize, sources: usize, nodes: usize) -> u32
 // The flux of one row: its products with the coefficients, added one after the other from +0 on.
 pub fn flux_of_row(row: &[f64], coefficients: &[f64]) -> f64
     requires { length row.now ≡ length coefficients.now }
-    ensures { result ≡ Spec.flux_of_row (passed row) (passed coefficients) }
+    ensures { result ≡ Spec.flux_of_row row.now coefficients.now }
 {
     let n = coefficients.len();
     let mut psi = 0.0;
@@ -65,7 +64,7 @@ pub fn flux_of_row(row: &[f64], coefficients: &[f64]) -> f64
 // The flux of row i of a map.
 fn row_flux(map: &[f64], coefficients: &[f64], i: usize) -> f64
     requires { i * length coefficients.now + length coefficients.now ≤ length map.now }
-    ensures { result ≡ Spec.row_flux (passed map) (passed coefficients) i }
+    ensures { result ≡ Spec.row_flux map.now coefficients.now i }
 {
     let row = lists::stretch(map, coefficients.len(), i);
     flux_of_row(row, coefficients)
@@ -74,7 +73,7 @@ fn row_flux(map: &[f64], coefficients: &[f64], i: usize) -> f64
 // The flux of every row.
 fn fill_flux(map: &[f64], coefficients: &[f64], out: &mut [f64])
     requires { length map.now ≡ length out.old * length coefficients.now }
-    ensures { left out ≡ Spec.flux_linkage (passed map) (passed coefficients) (length (passed out)) }
+    ensures { out.new ≡ Spec.flux_linkage map.now coefficients.now (length out.old) }
 {
     let mut i = 0;
     while i < out.len() {
@@ -89,7 +88,7 @@ pub fn triangle_mesh_flux_linkage_from_source_coefficients(
     coefficients: &[f64],
     out: &mut [f64],
 ) -> u32
-    ensures { Linked (passed map) (passed coefficients) (passed out) result (left out) }
+    ensures { Linked map.now coefficients.now out.old result out.new }
 {
     let refusal = map_refusal(map.len(), coefficients.len(), out.len());
     if refusal != 0 {
@@ -102,7 +101,7 @@ pub fn triangle_mesh_flux_linkage_from_source_coefficients(
 // Nodal values times flux, over all rows.
 fn add_interaction(map: &[f64], values: &[f64], coefficients: &[f64]) -> f64
     requires { length map.now ≡ length values.now * length coefficients.now }
-    ensures { result ≡ Spec.interaction_energy (passed map) (passed values) (passed coefficients) }
+    ensures { result ≡ Spec.interaction_energy map.now values.now coefficients.now }
 {
     let n = values.len();
     let mut out = 0.0;
@@ -118,7 +117,7 @@ pub fn triangle_mesh_interaction_energy_from_source_coefficients(
     values: &[f64],
     coefficients: &[f64],
 ) -> Answer
-    ensures { Spec.InteractionAnswered (passed map) (passed values) (passed coefficients) result.refusal result.value }
+    ensures { Spec.InteractionAnswered map.now values.now coefficients.now result.refusal result.value }
 {
     let refusal = map_refusal(map.len(), coefficients.len(), values.len());
     if refusal != 0 {

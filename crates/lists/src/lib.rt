@@ -1,10 +1,11 @@
 // What crates share that have lists or columns: definitions and laws on numbers below a count, lists
 // that are filled, lent values; whether three columns have the length due; a stretch of a list; and
 // bytes or numbers put into a buffer.
+#![tactic(auto)]
+
 ghost use Rattle.std.specs.Prelude.{◌≡◌, ◌+◌, ◌*◌, ◌≤◌, length};
 ghost use Rattle.std.proofs.Math.Seq.{paste};
 ghost use Rattle.lists.specs.Columns.{columns_differ};
-ghost use Rattle.lists.specs.Lent.{passed, left};
 ghost use Rattle.lists.specs.Putting.{Put};
 ghost use Rattle.lists.specs.Stretch as Spec;
 
@@ -18,7 +19,7 @@ pub fn columns_differ(n: usize, a: usize, b: usize, c: usize) -> bool
 // Puts bytes into out from `from` on, and answers the index behind them.
 pub fn put(out: &mut [u8], from: usize, bytes: &[u8]) -> usize
     requires { from + length bytes.now ≤ length out.old }
-    ensures { Put (passed out) from (passed bytes) (left out) result }
+    ensures { Put out.old from bytes.now out.new result }
 {
     let mut k = 0;
     while k < bytes.len() {
@@ -31,7 +32,7 @@ pub fn put(out: &mut [u8], from: usize, bytes: &[u8]) -> usize
 // Puts numbers into out from `from` on.
 pub fn put_numbers(out: &mut [f64], from: usize, numbers: &[f64])
     requires { from + length numbers.now ≤ length out.old }
-    ensures { left out ≡ paste (passed out) from (passed numbers) (length (passed numbers)) }
+    ensures { out.new ≡ paste out.old from numbers.now (length numbers.now) }
 {
     let mut k = 0;
     while k < numbers.len() {
@@ -43,7 +44,7 @@ pub fn put_numbers(out: &mut [f64], from: usize, numbers: &[f64])
 // w numbers from i · w on.
 pub fn stretch(m: &[f64], w: usize, i: usize) -> &[f64]
     requires { i * w + w ≤ length m.now }
-    ensures { result.now ≡ Spec.stretch (passed m) w i }
+    ensures { result.now ≡ Spec.stretch m.now w i }
 {
     let start = i * w;
     let end = start + w;

@@ -1,4 +1,6 @@
 // src/math.rs: vectors of three numbers by value; src/lib.rs: the magnetic constants.
+#![tactic(auto)]
+
 ghost use Rattle.std.specs.Prelude.{◌≡◌};
 ghost use Rattle.math.specs.Math as Spec;
 

@@ -3,7 +3,7 @@
 -- equates what it reads with `triangle_nodes` and `triangle_indices` of such a value, and the tests and laws are over these.
 use Rattle.std.specs.Prelude.{Bool, not, ◌||◌, cond, List, [], ◌∷◌, map, ℕ, leb, ltb, eqb, length, get_or, Float}
 use Rattle.std.specs.Float.Ieee.{lt}
-use Rattle.std.specs.Borrow.{Bor}
+use Rattle.std.specs.Borrow.{Bor, MutBor}
 use denote.Triple.Both.{Both}
 use Rattle.binary64.specs.Binary64.{◌⊕◌, ◌⊖◌, ◌⊗◌, ◌⊘◌, bits, at, four}
 use Rattle.ieee754.specs.Ieee754.{sqrt}
@@ -35,14 +35,14 @@ abbrev pub passed_mesh : {X Y Z A B C : Type 0} → Both (Bor (List Float)) X �
 passed_mesh x y z a b c = lent_mesh x.entry y.entry z.entry a.entry b.entry c.entry
 
 -- as a call leaves them that may write the coordinates
-abbrev pub left_mesh : {A B C : Type 0} → Both (Bor (List Float)) (Bor (List Float)) → Both (Bor (List Float)) (Bor (List Float)) → Both (Bor (List Float)) (Bor (List Float))
+abbrev pub left_mesh : {A B C : Type 0} → Both (MutBor (List Float)) (MutBor (List Float)) → Both (MutBor (List Float)) (MutBor (List Float)) → Both (MutBor (List Float)) (MutBor (List Float))
     → Both (Bor (List ℕ)) A → Both (Bor (List ℕ)) B → Both (Bor (List ℕ)) C → Mesh
-left_mesh x y z a b c = lent_mesh x.exit y.exit z.exit a.entry b.entry c.entry
+left_mesh x y z a b c = mesh_of x.exit.now y.exit.now z.exit.now a.entry.now b.entry.now c.entry.now
 
 -- as a call leaves them that may write all six
-abbrev pub written_mesh : Both (Bor (List Float)) (Bor (List Float)) → Both (Bor (List Float)) (Bor (List Float)) → Both (Bor (List Float)) (Bor (List Float))
-    → Both (Bor (List ℕ)) (Bor (List ℕ)) → Both (Bor (List ℕ)) (Bor (List ℕ)) → Both (Bor (List ℕ)) (Bor (List ℕ)) → Mesh
-written_mesh x y z a b c = lent_mesh x.exit y.exit z.exit a.exit b.exit c.exit
+abbrev pub written_mesh : Both (MutBor (List Float)) (MutBor (List Float)) → Both (MutBor (List Float)) (MutBor (List Float)) → Both (MutBor (List Float)) (MutBor (List Float))
+    → Both (MutBor (List ℕ)) (MutBor (List ℕ)) → Both (MutBor (List ℕ)) (MutBor (List ℕ)) → Both (MutBor (List ℕ)) (MutBor (List ℕ)) → Mesh
+written_mesh x y z a b c = mesh_of x.exit.now y.exit.now z.exit.now a.exit.now b.exit.now c.exit.now
 
 -- ---- its parts
 abbrev pub nnode : Mesh → ℕ

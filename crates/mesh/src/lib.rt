@@ -1,8 +1,9 @@
 // src/mesh/triangle3d.rs: the test of a triangle mesh in column form, with document 01's numbers.
 // A mesh is six lent columns: the coordinates x, y, z of the nodes, and for each panel the nodes
 // t0, t1, t2 of its corners.
+#![tactic(auto)]
+
 ghost use Rattle.std.specs.Prelude.{◌≡◌, [], ◌<◌, length};
-ghost use Rattle.lists.specs.Lent.{passed};
 ghost use Rattle.lists.specs.Counting.{triple};
 ghost use Rattle.mesh.specs.Conditions.{NodeColumnsAlike, PanelColumnsAlike, Below, NoneMissing, Tested};
 ghost use Rattle.mesh.specs.Mesh as Spec;
@@ -16,7 +17,7 @@ pub const MAX_PANELS: usize = 8192;
 // The coordinates of a node.
 pub fn node(x: &[f64], y: &[f64], z: &[f64], k: usize) -> [f64; 3]
     requires { (k < length x.now) × (k < length y.now) × (k < length z.now) }
-    ensures { result ≡ Spec.node (mesh_of (passed x) (passed y) (passed z) [] [] []) k }
+    ensures { result ≡ Spec.node (mesh_of x.now y.now z.now [] [] []) k }
 {
     [x[k], y[k], z[k]]
 }
@@ -24,7 +25,7 @@ pub fn node(x: &[f64], y: &[f64], z: &[f64], k: usize) -> [f64; 3]
 // The nodes of panel i.
 pub fn triangle_indices(t0: &[usize], t1: &[usize], t2: &[usize], i: usize) -> [usize; 3]
     requires { (i < length t0.now) × (i < length t1.now) × (i < length t2.now) }
-    ensures { result ≡ Spec.triangle_indices (mesh_of [] [] [] (passed t0) (passed t1) (passed t2)) i }
+    ensures { result ≡ Spec.triangle_indices (mesh_of [] [] [] t0.now t1.now t2.now) i }
 {
     [t0[i], t1[i], t2[i]]
 }
@@ -74,7 +75,7 @@ pub fn misses_node(n: usize, indices: [usize; 3]) -> bool
 // 3, over all panels
 fn some_misses_node(n: usize, t0: &[usize], t1: &[usize], t2: &[usize]) -> bool
     requires { PanelColumnsAlike (mesh_of [] [] [] t0.now t1.now t2.now) }
-    ensures { result ≡ Spec.some_misses n (mesh_of [] [] [] (passed t0) (passed t1) (passed t2)) }
+    ensures { result ≡ Spec.some_misses n (mesh_of [] [] [] t0.now t1.now t2.now) }
 {
     let mut i = 0;
     while i < t0.len() {
@@ -199,7 +200,7 @@ fn count_poor(x: &[f64], y: &[f64], z: &[f64], t0: &[usize], t1: &[usize], t2: &
 }
 
 // The answer of the mesh test: the number, and the count of poor panels, 0 on a refusal.
-#[derive(Drop)]
+#[derive(Clone, Copy)]
 pub struct MeshTest {
     pub refusal: u32,
     pub poor: usize,

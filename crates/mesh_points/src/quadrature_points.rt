@@ -1,6 +1,5 @@
 // The quadrature points of every panel and their area weights, panel after panel.
 ghost use Rattle.std.specs.Prelude.{◌≡◌, ◌<◌, ◌+◌};
-ghost use Rattle.lists.specs.Lent.{passed, left};
 ghost use Rattle.binary64.specs.Binary64.{at, ◌⊗◌};
 ghost use Rattle.tri.specs.Quadrature.{quadrature_count, quadrature_row};
 ghost use Rattle.tri.specs.declared.quadrature.Rule.TheVariants.{Known};
@@ -39,7 +38,7 @@ fn store_point(
     weight: f64,
 )
     requires { Within (i + 1) px.old py.old pz.old pw.old }
-    ensures { StoredPoint (passed px) (passed py) (passed pz) (passed pw) i v weight (left px) (left py) (left pz) (left pw) }
+    ensures { StoredPoint px.old py.old pz.old pw.old i v weight px.new py.new pz.new pw.new }
 {
     px[i] = v[0];
     py[i] = v[1];
@@ -58,7 +57,7 @@ fn fill_panel(
     pw: &mut [f64],
 )
     requires { Within (start + quadrature_count kind) px.old py.old pz.old pw.old }
-    ensures { Spec.PanelRun kind t start (passed px) (passed py) (passed pz) (passed pw) (left px) (left py) (left pz) (left pw) }
+    ensures { Spec.PanelRun kind t start px.old py.old pz.old pw.old px.new py.new pz.new pw.new }
 {
     let area = tri::mapping::area(t);
     let count = tri::quadrature::quadrature_count(kind);
@@ -86,7 +85,7 @@ fn fill_points(
     pw: &mut [f64],
 )
     requires { PointsReady kind (lent_mesh x y z t0 t1 t2) px.old py.old pz.old pw.old }
-    ensures { PointsWritten kind (passed_mesh x y z t0 t1 t2) (left px) (left py) (left pz) (left pw) }
+    ensures { PointsWritten kind (passed_mesh x y z t0 t1 t2) px.new py.new pz.new pw.new }
 {
     let count = tri::quadrature::quadrature_count(kind);
     let mut i = 0;
@@ -138,7 +137,7 @@ fn points_under(
     pz: &mut [f64],
     pw: &mut [f64],
 ) -> u32
-    ensures { PointsUnder kind (passed_mesh x y z t0 t1 t2) (passed px) (passed py) (passed pz) (passed pw) result (left px) (left py) (left pz) (left pw) }
+    ensures { PointsUnder kind (passed_mesh x y z t0 t1 t2) px.old py.old pz.old pw.old result px.new py.new pz.new pw.new }
 {
     let refusal = points_refusal(
         kind,
@@ -174,7 +173,7 @@ pub fn triangle_mesh_quadrature_points(
     pz: &mut [f64],
     pw: &mut [f64],
 ) -> u32
-    ensures { PointsBy rule (passed_mesh x y z t0 t1 t2) (passed px) (passed py) (passed pz) (passed pw) result (left px) (left py) (left pz) (left pw) }
+    ensures { PointsBy rule (passed_mesh x y z t0 t1 t2) px.old py.old pz.old pw.old result px.new py.new pz.new pw.new }
 {
     let known = tri::quadrature::quadrature_rule(rule);
     match known {

@@ -1,7 +1,8 @@
 // The move of one node: its place is written and the cells of its ring's rows and columns are worked
 // out anew, so that a fresh matrix is left fresh. Every test is made before anything is written.
-ghost use Rattle.lists.specs.Lent.{passed, left};
-ghost use Rattle.mesh.specs.Mesh.{passed_mesh, left_mesh, lent_mesh};
+#![tactic(auto)]
+
+ghost use Rattle.mesh.specs.Mesh.{left_mesh, mesh_of};
 ghost use Rattle.coupling.specs.Block.{mutual_inductance_block};
 ghost use Rattle.inductance.specs.Matrix.{cell};
 ghost use Rattle.node_move.specs.Move.{Done, MovedBy, MovedUnder, MoveReady};
@@ -23,8 +24,8 @@ fn move_accepted(
     py: f64,
     pz: f64,
 ) -> usize
-    requires { MoveReady (lent_mesh x y z t0 t1 t2) out.old v }
-    ensures { Done (cell (mutual_inductance_block kind)) (passed_mesh x y z t0 t1 t2) (passed out) v px py pz result (left_mesh x y z t0 t1 t2) (left out) }
+    requires { MoveReady (mesh_of x.old y.old z.old t0.now t1.now t2.now) out.old v }
+    ensures { Done (cell (mutual_inductance_block kind)) (mesh_of x.old y.old z.old t0.now t1.now t2.now) out.old v px py pz result (left_mesh x y z t0 t1 t2) out.new }
 {
     let n = x.len();
     let mut marks = [false; mesh::MAX_NODES];
@@ -38,7 +39,7 @@ fn move_accepted(
 }
 
 // The answer of a move: the number, and the count of the renewed cells, 0 on a refusal.
-#[derive(Drop)]
+#[derive(Clone, Copy)]
 pub struct Moved {
     pub refusal: u32,
     pub count: usize,
@@ -59,7 +60,7 @@ fn move_under(
     py: f64,
     pz: f64,
 ) -> Moved
-    ensures { MovedUnder kind (passed_mesh x y z t0 t1 t2) (passed out) v px py pz result.refusal result.count (left_mesh x y z t0 t1 t2) (left out) }
+    ensures { MovedUnder kind (mesh_of x.old y.old z.old t0.now t1.now t2.now) out.old v px py pz result.refusal result.count (left_mesh x y z t0 t1 t2) out.new }
 {
     let refusal = node_ring::place_refusal(x, y, z, t0, t1, t2, out.len(), v, px, py, pz);
     if refusal != 0 {
@@ -90,7 +91,7 @@ pub fn move_node(
     py: f64,
     pz: f64,
 ) -> Moved
-    ensures { MovedBy rule (passed_mesh x y z t0 t1 t2) (passed out) v px py pz result.refusal result.count (left_mesh x y z t0 t1 t2) (left out) }
+    ensures { MovedBy rule (mesh_of x.old y.old z.old t0.now t1.now t2.now) out.old v px py pz result.refusal result.count (left_mesh x y z t0 t1 t2) out.new }
 {
     match tri::quadrature::quadrature_rule(rule) {
         Rule::Known(kind) => move_under(kind, x, y, z, t0, t1, t2, out, v, px, py, pz),

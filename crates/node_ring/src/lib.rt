@@ -1,7 +1,8 @@
 // What a move of one node needs before anything is written: its number, tested on the moved mesh, and the
 // ring of the node, marked and counted; for a return to a shape the rings of all nodes that change.
+#![tactic(auto)]
+
 ghost use Rattle.std.specs.Prelude.{◌≡◌, ◌||◌, [], ℕ, ◌<◌, ◌≤◌, ◌*◌, ◌-◌, length};
-ghost use Rattle.lists.specs.Lent.{passed, left};
 ghost use Rattle.lists.specs.Counting.{any_of, triple, count_below};
 ghost use Rattle.mesh.specs.Mesh.{mesh_of, node, triangle_nodes, some_zero_area, max_nodes, passed_mesh, lent_mesh};
 ghost use Rattle.mesh.specs.Conditions.{NodeColumnsAlike, PanelColumnsAlike, Below, NoneMissing};
@@ -23,7 +24,7 @@ fn node_moved(
     k: usize,
 ) -> [f64; 3]
     requires { (k < length x.now) × (k < length y.now) × (k < length z.now) }
-    ensures { result ≡ node (moved (mesh_of (passed x) (passed y) (passed z) [] [] []) v px py pz) k }
+    ensures { result ≡ node (moved (mesh_of x.now y.now z.now [] [] []) v px py pz) k }
 {
     if k == v {
         return [px, py, pz];
@@ -126,7 +127,7 @@ fn holds(s: [usize; 3], v: usize) -> bool
 // Three marks more.
 fn mark_three(marks: &mut [bool], s: [usize; 3])
     requires { AllBelow (length marks.old) (triple s) }
-    ensures { (a : ℕ) → marked (left marks) a ≡ (marked (passed marks) a || any_of (same a) (triple s)) }
+    ensures { (a : ℕ) → marked marks.new a ≡ (marked marks.old a || any_of (same a) (triple s)) }
 {
     marks[s[0]] = true;
     marks[s[1]] = true;
@@ -137,7 +138,7 @@ fn mark_three(marks: &mut [bool], s: [usize; 3])
 fn mark_panel(marks: &mut [bool], s: [usize; 3], v: usize)
     requires all_below { AllBelow (length marks.old) (triple s) }
     requires v_in_bounds { v < length marks.old }
-    ensures { MarksPanel (same v) (triple s) (passed marks) (left marks) }
+    ensures { MarksPanel (same v) (triple s) marks.old marks.new }
 {
     if holds(s, v) {
         mark_three(marks, s);
@@ -148,7 +149,7 @@ fn mark_panel(marks: &mut [bool], s: [usize; 3], v: usize)
 fn mark_touched(marks: &mut [bool], changed: &[bool], panel: [usize; 3])
     requires all_below { AllBelow (length marks.old) (triple panel) }
     requires all_below_2 { AllBelow (length changed.now) (triple panel) }
-    ensures { MarksPanel (marked (passed changed)) (triple panel) (passed marks) (left marks) }
+    ensures { MarksPanel (marked changed.now) (triple panel) marks.old marks.new }
 {
     if scatter::touches(changed, panel) {
         mark_three(marks, panel);
@@ -160,7 +161,7 @@ pub fn mark_ring(marks: &mut [bool], t0: &[usize], t1: &[usize], t2: &[usize], v
     requires panel_columns_alike { PanelColumnsAlike (mesh_of [] [] [] t0.now t1.now t2.now) }
     requires indices_below { IndicesBelow (length marks.old) (mesh_of [] [] [] t0.now t1.now t2.now) }
     requires v_in_bounds { v < length marks.old }
-    ensures { MarksRing (mesh_of [] [] [] (passed t0) (passed t1) (passed t2)) (same v) (passed marks) (left marks) }
+    ensures { MarksRing (mesh_of [] [] [] t0.now t1.now t2.now) (same v) marks.old marks.new }
 {
     let mut p = 0;
     while p < t0.len() {
@@ -174,7 +175,7 @@ pub fn mark_rings(marks: &mut [bool], changed: &[bool], t0: &[usize], t1: &[usiz
     requires panel_columns_alike { PanelColumnsAlike (mesh_of [] [] [] t0.now t1.now t2.now) }
     requires indices_below { IndicesBelow (length marks.old) (mesh_of [] [] [] t0.now t1.now t2.now) }
     requires indices_below_2 { IndicesBelow (length changed.now) (mesh_of [] [] [] t0.now t1.now t2.now) }
-    ensures { MarksRing (mesh_of [] [] [] (passed t0) (passed t1) (passed t2)) (marked (passed changed)) (passed marks) (left marks) }
+    ensures { MarksRing (mesh_of [] [] [] t0.now t1.now t2.now) (marked changed.now) marks.old marks.new }
 {
     let mut p = 0;
     while p < t0.len() {
@@ -186,7 +187,7 @@ pub fn mark_rings(marks: &mut [bool], changed: &[bool], t0: &[usize], t1: &[usiz
 // How many of the first n nodes are marked.
 pub fn count_marks(marks: &[bool], n: usize) -> usize
     requires { n ≤ length marks.now }
-    ensures { result ≡ count_below (marked (passed marks)) n }
+    ensures { result ≡ count_below (marked marks.now) n }
 {
     let mut t: usize = 0;
     let mut i = 0;

@@ -1,6 +1,5 @@
 // The kinds that are replayed.
 ghost use Rattle.std.specs.Prelude.{◌≡◌};
-ghost use Rattle.lists.specs.Lent.{passed};
 ghost use Rattle.oracle_calls.specs.Kinds as Spec;
 
 use replay_calls::{calls, numbers, pairs, panels, vectors};
@@ -8,7 +7,7 @@ use replay_cases::case;
 
 // Whether the results of a case of fixed length are ours, from its numbers and its words.
 fn calls_agree(kind: u64, f: &[f64; 2048], w: &[u64; 2048]) -> bool
-    ensures { result ≡ Spec.calls_agree_all kind (passed f) (passed w) }
+    ensures { result ≡ Spec.calls_agree_all kind f.now w.now }
 {
     let a = numbers::agree(kind, f, w);
     let b = vectors::agree(kind, f, w);
@@ -20,7 +19,7 @@ fn calls_agree(kind: u64, f: &[f64; 2048], w: &[u64; 2048]) -> bool
 
 // Whether a case's results are ours, from its kind and its bytes behind the head.
 pub fn agrees(kind: u64, b: &[u8; 16384]) -> bool
-    ensures { result ≡ Spec.agrees kind (passed b) }
+    ensures { result ≡ Spec.agrees kind b.now }
 {
     let w = case::words(b);
     let f = case::numbers(&w);

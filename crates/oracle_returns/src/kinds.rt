@@ -1,13 +1,12 @@
 // The kinds that are replayed.
 ghost use Rattle.std.specs.Prelude.{◌≡◌};
-ghost use Rattle.lists.specs.Lent.{passed};
 ghost use Rattle.oracle_returns.specs.Kinds as Spec;
 
 use replay_cases::case;
 
 // Whether a case's results are ours, from its kind and its bytes behind the head.
 pub fn agrees(kind: u64, b: &[u8; 16384]) -> bool
-    ensures { result ≡ Spec.agrees kind (passed b) }
+    ensures { result ≡ Spec.agrees kind b.now }
 {
     let w = case::words(b);
     let f = case::numbers(&w);

@@ -1,4 +1,6 @@
 // The block of two panels, from numbers that are worked out once a panel.
+#![tactic(auto)]
+
 ghost use Rattle.std.specs.Prelude.{◌≡◌};
 ghost use Rattle.coupling.specs.Block.{mutual_inductance_block};
 ghost use Rattle.coupling.specs.Coupling.{geometric_coupling};
@@ -16,7 +18,7 @@ use potential::UniformTriangle;
 use tri::quadrature::{QuadratureKind, quadrature_count};
 
 // A panel's own numbers: corners and densities as nine numbers each, the longest edge squared, the box.
-#[derive(Drop)]
+#[derive(Clone, Copy)]
 pub struct Panel {
     pub corners: [f64; 9],
     pub area: f64,
@@ -27,7 +29,7 @@ pub struct Panel {
 }
 
 // A panel with what it needs besides as the source of a row of targets.
-#[derive(Drop)]
+#[derive(Clone, Copy)]
 pub struct Source {
     pub panel: Panel,
     pub rows: Rows,

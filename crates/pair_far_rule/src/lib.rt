@@ -1,6 +1,7 @@
 // The far rule with each distance worked out once for both directions.
+#![tactic(auto)]
+
 ghost use Rattle.std.specs.Prelude.{◌≡◌, ◌+◌, ◌≤◌};
-ghost use Rattle.lists.specs.Lent.{passed, left};
 ghost use Rattle.binary64.specs.Binary64.{at, ◌⊘◌};
 ghost use Rattle.lists.specs.Sums.{sum_to};
 ghost use Rattle.panel_points.specs.Points.{points_at};
@@ -25,7 +26,7 @@ fn share_row(
     held: &mut [f64; MAX_POINTS],
 ) -> f64
     requires { (count ≤ max_points) × (start + count ≤ max_pairs) }
-    ensures { (result ≡ sum_to (λ j. at w j ⊘ from (passed d) start j) count) × (left held ≡ shared (passed held) v (from (passed d) start) count) }
+    ensures { (result ≡ sum_to (λ j. at w j ⊘ from d.now start j) count) × (held.new ≡ shared held.old v (from d.now start) count) }
 {
     let mut out = 0.0;
     for j in 0..count {
@@ -56,7 +57,7 @@ fn far_one(s: Points, t: Points) -> f64
 // Half the sum of the two directions over all distances, of the weights of both.
 fn far_sums(count: usize, w: [f64; MAX_POINTS], pw: [f64; MAX_POINTS], d: &[f64; MAX_PAIRS]) -> f64
     requires { count ≤ max_points }
-    ensures { result ≡ Spec.far_by count w pw (passed d) }
+    ensures { result ≡ Spec.far_by count w pw d.now }
 {
     let mut held = [0.0; MAX_POINTS];
     let mut out = 0.0;

@@ -1,4 +1,6 @@
 // Whether two panels are far from each other, the cheap tests first.
+#![tactic(auto)]
+
 ghost use Rattle.std.specs.Prelude.{◌≡◌};
 ghost use Rattle.boundary_element.specs.Identity.{triangles_identical};
 ghost use Rattle.pair_far_test.specs.Which as Spec;

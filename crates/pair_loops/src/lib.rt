@@ -1,7 +1,8 @@
 // The loops over pairs of panels: every addition that names a marked node, in program order. They
 // serve the assembly, with every node marked, and a move, with the ring of the moved node marked.
+#![tactic(auto)]
+
 ghost use Rattle.std.specs.Prelude.{◌≡◌, ◌<◌, ◌≤◌, length};
-ghost use Rattle.lists.specs.Lent.{passed, left};
 ghost use Rattle.mesh.specs.Mesh.{triangle_nodes, passed_mesh, lent_mesh};
 ghost use Rattle.coupling.specs.Block.{mutual_inductance_block};
 ghost use Rattle.pair.specs.Pair.{panel_numbers, source_numbers};
@@ -32,7 +33,7 @@ fn add_pair(
     requires all_cached { AllCached (lent_mesh x y z t0 t1 t2) cache.now }
     requires i_in_bounds { (i < length t0.now) × (j < length t0.now) }
     requires source_value { source ≡ source_numbers kind (panel_numbers (triangle_nodes (lent_mesh x y z t0 t1 t2) i)) }
-    ensures { left out ≡ added_to (passed marks) (passed_mesh x y z t0 t1 t2) (passed out) (λ m. pair_entries (mutual_inductance_block kind) m i j) }
+    ensures { out.new ≡ added_to marks.now (passed_mesh x y z t0 t1 t2) out.old (λ m. pair_entries (mutual_inductance_block kind) m i j) }
 {
     let s = mesh::triangle_indices(t0, t1, t2, i);
     let t = mesh::triangle_indices(t0, t1, t2, j);
@@ -65,7 +66,7 @@ fn add_targets(
     requires all_cached { AllCached (lent_mesh x y z t0 t1 t2) cache.now }
     requires i_le_first { i ≤ first }
     requires source_value { source ≡ source_numbers kind (panel_numbers (triangle_nodes (lent_mesh x y z t0 t1 t2) i)) }
-    ensures { left out ≡ added_to (passed marks) (passed_mesh x y z t0 t1 t2) (passed out) (λ m. targets_from (mutual_inductance_block kind) m i first) }
+    ensures { out.new ≡ added_to marks.now (passed_mesh x y z t0 t1 t2) out.old (λ m. targets_from (mutual_inductance_block kind) m i first) }
 {
     let mut j = first;
     while j < t0.len() {
@@ -95,7 +96,7 @@ fn add_source(
     requires scanned { Scanned (lent_mesh x y z t0 t1 t2) marks.now flags.now links.now }
     requires all_cached { AllCached (lent_mesh x y z t0 t1 t2) cache.now }
     requires i_le_first { i ≤ first }
-    ensures { left out ≡ added_to (passed marks) (passed_mesh x y z t0 t1 t2) (passed out) (λ m. targets_from (mutual_inductance_block kind) m i first) }
+    ensures { out.new ≡ added_to marks.now (passed_mesh x y z t0 t1 t2) out.old (λ m. targets_from (mutual_inductance_block kind) m i first) }
 {
     let j = scatter::next_named(flags, links, t0.len(), i, first);
     if j < t0.len() {
@@ -126,7 +127,7 @@ fn add_sources(
     requires ready { Ready (lent_mesh x y z t0 t1 t2) out.old marks.now }
     requires scanned { Scanned (lent_mesh x y z t0 t1 t2) marks.now flags.now links.now }
     requires all_cached { AllCached (lent_mesh x y z t0 t1 t2) cache.now }
-    ensures { left out ≡ added_to (passed marks) (passed_mesh x y z t0 t1 t2) (passed out) (λ m. source_entries (mutual_inductance_block kind) m 0 count) }
+    ensures { out.new ≡ added_to marks.now (passed_mesh x y z t0 t1 t2) out.old (λ m. source_entries (mutual_inductance_block kind) m 0 count) }
 {
     let mut i = 0;
     while i < count {
@@ -155,7 +156,7 @@ pub fn add_all(
 )
     requires ready { Ready (lent_mesh x y z t0 t1 t2) out.old marks.now }
     requires scanned { Scanned (lent_mesh x y z t0 t1 t2) marks.now flags.now links.now }
-    ensures { left out ≡ added_to (passed marks) (passed_mesh x y z t0 t1 t2) (passed out) (λ m. entries (mutual_inductance_block kind) m) }
+    ensures { out.new ≡ added_to marks.now (passed_mesh x y z t0 t1 t2) out.old (λ m. entries (mutual_inductance_block kind) m) }
 {
     let sources = t0.len();
     if scatter::next_named(flags, links, t0.len(), 0, 0) < t0.len() {

@@ -1,11 +1,12 @@
 // Document 01's panel file and its reader. The mesh is tested on the file's own bytes, so that
 // nothing is written before every test has passed.
+#![tactic(auto)]
+
 ghost use Rattle.std.specs.Prelude.{◌≡◌, ◌+◌, ◌^◌, ◌≤◌, ◌<◌, length};
-ghost use Rattle.lists.specs.Lent.{passed, left};
 ghost use Rattle.binary64.specs.Binary64.{bits};
 ghost use Rattle.lists.specs.Filling.{tabulate};
 ghost use Rattle.mesh.specs.Mesh as Mesh;
-ghost use Rattle.mesh.specs.Mesh.{max_nodes, max_panels, passed_mesh, written_mesh};
+ghost use Rattle.mesh.specs.Mesh.{max_nodes, max_panels, written_mesh, mesh_of};
 ghost use Rattle.mesh.specs.Conditions.{NoneMissing};
 ghost use Rattle.panel_file.specs.LittleEndian.{little_endian};
 ghost use Rattle.panel_file.specs.PanelFile as Spec;
@@ -17,7 +18,7 @@ pub const HEADER: usize = 9;
 // The number in the bytes from `from` on, the lowest first: read from the highest down.
 pub fn little_endian(bytes: &[u8], from: usize, width: usize) -> u64
     requires { (width ≤ 8) × (from + width ≤ length bytes.now) }
-    ensures value { result ≡ little_endian width (passed bytes) from }
+    ensures value { result ≡ little_endian width bytes.now from }
     ensures upper_bound { result < 256 ^ width }
 {
     let mut n: u64 = 0;
@@ -42,7 +43,7 @@ pub fn from_bits(n: u64) -> f64
 
 pub fn node_count(bytes: &[u8]) -> usize
     requires { 9 ≤ length bytes.now }
-    ensures value { result ≡ Spec.node_count (passed bytes) }
+    ensures value { result ≡ Spec.node_count bytes.now }
     ensures upper_bound { result < 2 ^ 16 }
 {
     little_endian(bytes, 5, 2) as usize
@@ -50,7 +51,7 @@ pub fn node_count(bytes: &[u8]) -> usize
 
 pub fn panel_count(bytes: &[u8]) -> usize
     requires { 9 ≤ length bytes.now }
-    ensures value { result ≡ Spec.panel_count (passed bytes) }
+    ensures value { result ≡ Spec.panel_count bytes.now }
     ensures upper_bound { result < 2 ^ 16 }
 {
     little_endian(bytes, 7, 2) as usize
@@ -59,7 +60,7 @@ pub fn panel_count(bytes: &[u8]) -> usize
 // Coordinate 0, 1 or 2 of node k.
 fn coordinate(bytes: &[u8], axis: usize, k: usize) -> f64
     requires { (k < 2 ^ 16) × (axis ≤ 2) × (Spec.coordinate_place axis k + 8 ≤ length bytes.now) }
-    ensures { result ≡ Spec.coordinate (passed bytes) axis k }
+    ensures { result ≡ Spec.coordinate bytes.now axis k }
 {
     from_bits(little_endian(bytes, HEADER + (k * 24 + axis * 8), 8))
 }
@@ -67,7 +68,7 @@ fn coordinate(bytes: &[u8], axis: usize, k: usize) -> f64
 // Corner 0, 1 or 2 of panel i, in a file of n nodes.
 fn index(bytes: &[u8], n: usize, corner: usize, i: usize) -> usize
     requires { (n < 2 ^ 16) × (i < 2 ^ 16) × (corner ≤ 2) × (Spec.index_place n corner i + 2 ≤ length bytes.now) }
-    ensures value { result ≡ Spec.index (passed bytes) n corner i }
+    ensures value { result ≡ Spec.index bytes.now n corner i }
     ensures upper_bound { result < 2 ^ 16 }
 {
     little_endian(bytes, HEADER + (n * 24 + (i * 6 + corner * 2)), 2) as usize
@@ -76,7 +77,7 @@ fn index(bytes: &[u8], n: usize, corner: usize, i: usize) -> usize
 // The value of node k behind p panels.
 pub fn nodal_value(bytes: &[u8], n: usize, p: usize, k: usize) -> f64
     requires { (n < 2 ^ 16) × (p < 2 ^ 16) × (k < n) × (Spec.value_place n p n ≤ length bytes.now) }
-    ensures { result ≡ Spec.nodal_value (passed bytes) n p k }
+    ensures { result ≡ Spec.nodal_value bytes.now n p k }
 {
     from_bits(little_endian(bytes, HEADER + (n * 24 + p * 6 + k * 8), 8))
 }
@@ -84,7 +85,7 @@ pub fn nodal_value(bytes: &[u8], n: usize, p: usize, k: usize) -> f64
 // The coordinates of node k.
 fn node(bytes: &[u8], n: usize, k: usize) -> [f64; 3]
     requires { Holds n bytes.now × (k < n) }
-    ensures { result ≡ Mesh.node (Spec.decode (passed bytes)) k }
+    ensures { result ≡ Mesh.node (Spec.decode bytes.now) k }
 {
     [
         coordinate(bytes, 0, k),
@@ -96,7 +97,7 @@ fn node(bytes: &[u8], n: usize, k: usize) -> [f64; 3]
 // The nodes of panel i.
 pub fn triangle_indices(bytes: &[u8], n: usize, i: usize) -> [usize; 3]
     requires { Holds n bytes.now × (i < Spec.panel_count bytes.now) }
-    ensures { result ≡ Mesh.triangle_indices (Spec.decode (passed bytes)) i }
+    ensures { result ≡ Mesh.triangle_indices (Spec.decode bytes.now) i }
 {
     [
         index(bytes, n, 0, i),
@@ -108,7 +109,7 @@ pub fn triangle_indices(bytes: &[u8], n: usize, i: usize) -> [usize; 3]
 // The corners of panel i.
 pub fn triangle_nodes(bytes: &[u8], n: usize, i: usize) -> [[f64; 3]; 3]
     requires { Holds n bytes.now × (i < Spec.panel_count bytes.now) × IndicesBelow bytes.now n i }
-    ensures { result ≡ Mesh.triangle_nodes (Spec.decode (passed bytes)) i }
+    ensures { result ≡ Mesh.triangle_nodes (Spec.decode bytes.now) i }
 {
     let a = node(bytes, n, index(bytes, n, 0, i));
     let b = node(bytes, n, index(bytes, n, 1, i));
@@ -119,7 +120,7 @@ pub fn triangle_nodes(bytes: &[u8], n: usize, i: usize) -> [[f64; 3]; 3]
 // 3, over all panels of the file
 fn some_misses_node(bytes: &[u8], n: usize, p: usize) -> bool
     requires { Holds n bytes.now × (p ≡ Spec.panel_count bytes.now) }
-    ensures { result ≡ Mesh.some_misses_node (Spec.decode (passed bytes)) }
+    ensures { result ≡ Mesh.some_misses_node (Spec.decode bytes.now) }
 {
     let mut i = 0;
     while i < p {
@@ -134,7 +135,7 @@ fn some_misses_node(bytes: &[u8], n: usize, p: usize) -> bool
 // 4, over all panels of the file
 fn some_zero_area(bytes: &[u8], n: usize, p: usize) -> bool
     requires { Holds n bytes.now × (p ≡ Spec.panel_count bytes.now) × NoneMissing (Spec.decode bytes.now) }
-    ensures { result ≡ Mesh.some_zero_area (Spec.decode (passed bytes)) }
+    ensures { result ≡ Mesh.some_zero_area (Spec.decode bytes.now) }
 {
     let mut i = 0;
     while i < p {
@@ -148,7 +149,7 @@ fn some_zero_area(bytes: &[u8], n: usize, p: usize) -> bool
 
 // 14
 fn marks_differ(bytes: &[u8]) -> bool
-    ensures { result ≡ Spec.marks_differ (passed bytes) }
+    ensures { result ≡ Spec.marks_differ bytes.now }
 {
     if bytes.len() < HEADER {
         return true;
@@ -169,7 +170,7 @@ pub fn length_due(extra: usize, n: usize, p: usize) -> usize
 // accepted.
 pub fn file_refusal(nodes: usize, panels: usize, extra: usize, bytes: &[u8]) -> u32
     requires { extra < 2 ^ 16 }
-    ensures { result ≡ Spec.file_refusal nodes panels extra (passed bytes) }
+    ensures { result ≡ Spec.file_refusal nodes panels extra bytes.now }
 {
     if marks_differ(bytes) {
         return refusal::FILE_MARK;
@@ -194,7 +195,7 @@ pub fn file_refusal(nodes: usize, panels: usize, extra: usize, bytes: &[u8]) -> 
 // Coordinate 0, 1 or 2 of every node.
 fn fill_coordinates(bytes: &[u8], axis: usize, out: &mut [f64])
     requires { Holds (length out.old) bytes.now × (axis ≤ 2) }
-    ensures { left out ≡ tabulate (Spec.node_count (passed bytes)) (Spec.coordinate (passed bytes) axis) }
+    ensures { out.new ≡ tabulate (Spec.node_count bytes.now) (Spec.coordinate bytes.now axis) }
 {
     let mut k = 0;
     while k < out.len() {
@@ -206,7 +207,7 @@ fn fill_coordinates(bytes: &[u8], axis: usize, out: &mut [f64])
 // Corner 0, 1 or 2 of every panel, in a file of n nodes.
 fn fill_indices(bytes: &[u8], n: usize, corner: usize, out: &mut [usize])
     requires { Holds n bytes.now × (corner ≤ 2) × (length out.old ≡ Spec.panel_count bytes.now) }
-    ensures { left out ≡ tabulate (Spec.panel_count (passed bytes)) (Spec.index (passed bytes) (Spec.node_count (passed bytes)) corner) }
+    ensures { out.new ≡ tabulate (Spec.panel_count bytes.now) (Spec.index bytes.now (Spec.node_count bytes.now) corner) }
 {
     let mut i = 0;
     while i < out.len() {
@@ -227,7 +228,7 @@ fn read_refusal(
     t1: usize,
     t2: usize,
 ) -> u32
-    ensures { result ≡ Spec.read_refusal nodes panels (passed bytes) (Spec.lengths x y z t0 t1 t2) }
+    ensures { result ≡ Spec.read_refusal nodes panels bytes.now (Spec.lengths x y z t0 t1 t2) }
 {
     let refusal = file_refusal(nodes, panels, 0, bytes);
     if refusal != 0 {
@@ -253,7 +254,7 @@ pub fn read_panel_file_within(
     t1: &mut [usize],
     t2: &mut [usize],
 ) -> u32
-    ensures { Read nodes panels (passed bytes) (passed_mesh x y z t0 t1 t2) result (written_mesh x y z t0 t1 t2) }
+    ensures { Read nodes panels bytes.now (mesh_of x.old y.old z.old t0.old t1.old t2.old) result (written_mesh x y z t0 t1 t2) }
 {
     let refusal = read_refusal(
         nodes,
@@ -289,7 +290,7 @@ pub fn read_panel_file(
     t1: &mut [usize],
     t2: &mut [usize],
 ) -> u32
-    ensures { Read max_nodes max_panels (passed bytes) (passed_mesh x y z t0 t1 t2) result (written_mesh x y z t0 t1 t2) }
+    ensures { Read max_nodes max_panels bytes.now (mesh_of x.old y.old z.old t0.old t1.old t2.old) result (written_mesh x y z t0 t1 t2) }
 {
     read_panel_file_within(
         mesh::MAX_NODES,

@@ -1,7 +1,8 @@
 // The writer of document 01's panel file. The mesh and the output's length are tested before anything
 // is written; then header, nodes and panels are put one behind the other.
+#![tactic(auto)]
+
 ghost use Rattle.std.specs.Prelude.{◌≡◌, [], ◌+◌, ◌*◌, ◌^◌, ◌≤◌, ◌<◌, length};
-ghost use Rattle.lists.specs.Lent.{passed, left};
 ghost use Rattle.lists.specs.Putting.{Put};
 ghost use Rattle.mesh.specs.Mesh.{mesh_of, max_nodes, max_panels, passed_mesh};
 ghost use Rattle.mesh.specs.Conditions.{NodeColumnsAlike, PanelColumnsAlike};
@@ -12,7 +13,7 @@ ghost use Rattle.panel_file_write.specs.Write.{write_refusal, Written};
 // A number's lowest `width` bytes, the lowest first; the answer is the index behind them.
 fn put_number(out: &mut [u8], from: usize, width: usize, n: u64) -> usize
     requires { from + width ≤ length out.old }
-    ensures { Put (passed out) from (to_little_endian width n) (left out) result }
+    ensures { Put out.old from (to_little_endian width n) out.new result }
 {
     let mut rest = n;
     let mut k = 0;
@@ -27,7 +28,7 @@ fn put_number(out: &mut [u8], from: usize, width: usize, n: u64) -> usize
 // Three numbers of `width` bytes.
 fn put_three(out: &mut [u8], from: usize, width: usize, a: u64, b: u64, c: u64) -> usize
     requires { from + (width + (width + width)) ≤ length out.old }
-    ensures { Put (passed out) from (three_fields width a b c) (left out) result }
+    ensures { Put out.old from (three_fields width a b c) out.new result }
 {
     let second = put_number(out, from, width, a);
     let third = put_number(out, second, width, b);
@@ -37,7 +38,7 @@ fn put_three(out: &mut [u8], from: usize, width: usize, a: u64, b: u64, c: u64) 
 // Mark, version 1 and the counts.
 fn put_header(out: &mut [u8], n: usize, p: usize) -> usize
     requires { 9 ≤ length out.old }
-    ensures { Put (passed out) 0 (encode_header n p) (left out) result }
+    ensures { Put out.old 0 (encode_header n p) out.new result }
 {
     let behind = lists::put(out, 0, b"PNL");
     put_three(out, behind, 2, 1, n as u64, p as u64)
@@ -46,7 +47,7 @@ fn put_header(out: &mut [u8], n: usize, p: usize) -> usize
 // The coordinates of every node.
 fn put_nodes(out: &mut [u8], from: usize, x: &[f64], y: &[f64], z: &[f64]) -> usize
     requires { NodeColumnsAlike (mesh_of x.now y.now z.now [] [] []) × (from + length x.now * 24 ≤ length out.old) }
-    ensures { Put (passed out) from (node_rows (mesh_of (passed x) (passed y) (passed z) [] [] [])) (left out) result }
+    ensures { Put out.old from (node_rows (mesh_of x.now y.now z.now [] [] [])) out.new result }
 {
     let mut to = from;
     let mut k = 0;
@@ -63,7 +64,7 @@ fn put_nodes(out: &mut [u8], from: usize, x: &[f64], y: &[f64], z: &[f64]) -> us
 // The indices of every panel.
 fn put_panels(out: &mut [u8], from: usize, t0: &[usize], t1: &[usize], t2: &[usize]) -> usize
     requires { PanelColumnsAlike (mesh_of [] [] [] t0.now t1.now t2.now) × (from + length t0.now * 6 ≤ length out.old) }
-    ensures { Put (passed out) from (panel_rows (mesh_of [] [] [] (passed t0) (passed t1) (passed t2))) (left out) result }
+    ensures { Put out.old from (panel_rows (mesh_of [] [] [] t0.now t1.now t2.now)) out.new result }
 {
     let mut to = from;
     let mut i = 0;
@@ -114,7 +115,7 @@ pub fn write_panel_file_within(
     out: &mut [u8],
 ) -> u32
     requires { (nodes < 2 ^ 16) × (panels < 2 ^ 16) }
-    ensures { Written nodes panels (passed_mesh x y z t0 t1 t2) (passed out) result (left out) }
+    ensures { Written nodes panels (passed_mesh x y z t0 t1 t2) out.old result out.new }
 {
     let refusal = write_refusal(nodes, panels, x, y, z, t0, t1, t2, out.len());
     if refusal != 0 {
@@ -136,7 +137,7 @@ pub fn write_panel_file(
     t2: &[usize],
     out: &mut [u8],
 ) -> u32
-    ensures { Written max_nodes max_panels (passed_mesh x y z t0 t1 t2) (passed out) result (left out) }
+    ensures { Written max_nodes max_panels (passed_mesh x y z t0 t1 t2) out.old result out.new }
 {
     write_panel_file_within(mesh::MAX_NODES, mesh::MAX_PANELS, x, y, z, t0, t1, t2, out)
 }

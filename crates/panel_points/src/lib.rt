@@ -1,4 +1,6 @@
 // The rows of a quadrature rule and its points on a panel, in seven places for any rule, and sums over them.
+#![tactic(auto)]
+
 ghost use Rattle.std.specs.Prelude.{◌≡◌, ◌≤◌};
 ghost use Rattle.lists.specs.Sums.{sum_to};
 ghost use Rattle.binary64.specs.Binary64.{at, ◌⊗◌};
@@ -24,7 +26,7 @@ pub fn triangle(v: [f64; 9]) -> [[f64; 3]; 3]
 
 // ---- the rows of a rule, seven places for any rule
 // Of each row the shares of the three corners, 1 - u - v, u and v, and the weight; +0 behind the rule's count.
-#[derive(Drop)]
+#[derive(Clone, Copy)]
 pub struct Rows {
     pub first: [f64; MAX_POINTS],
     pub second: [f64; MAX_POINTS],
@@ -88,7 +90,7 @@ fn weights(weight: [f64; MAX_POINTS], area: f64) -> [f64; MAX_POINTS]
 }
 
 // Points and weights.
-#[derive(Drop)]
+#[derive(Clone, Copy)]
 pub struct Points {
     pub x: [f64; MAX_POINTS],
     pub y: [f64; MAX_POINTS],

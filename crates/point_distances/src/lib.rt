@@ -1,7 +1,8 @@
 // The distances between the points of two panels, all at once: the differences, their squares and the estimates of the
 // roots in loops without a branch, which the compiler lays out in lanes, then the tests of both.
+#![tactic(auto)]
+
 ghost use Rattle.std.specs.Prelude.{◌≡◌, ℕ, ◌+◌, ◌*◌, ◌≤◌, ◌<◌, length};
-ghost use Rattle.lists.specs.Lent.{passed, left};
 ghost use Rattle.binary64.specs.Binary64.{◌⊖◌, at};
 ghost use Rattle.math.specs.Math.{norm3};
 ghost use Rattle.square_root.specs.Estimate.{root_estimate};
@@ -17,7 +18,7 @@ pub const MAX_PAIRS: usize = 49;
 // q less each of the first n numbers, from index start.
 fn difference_row(q: f64, x: &[f64], n: usize, start: usize, out: &mut [f64])
     requires { (n ≤ length x.now) × (start + n ≤ length out.old) }
-    ensures { left out ≡ run (passed out) start n (λ j. q ⊖ at (passed x) j) n }
+    ensures { out.new ≡ run out.old start n (λ j. q ⊖ at x.now j) n }
 {
     let mut j = 0;
     while j < n {
@@ -29,7 +30,7 @@ fn difference_row(q: f64, x: &[f64], n: usize, start: usize, out: &mut [f64])
 // One coordinate of all pairs: the first n numbers a less the first n numbers x.
 fn differences(a: &[f64], x: &[f64], n: usize, out: &mut [f64])
     requires { (n ≤ length a.now) × (n ≤ length x.now) × (n ≤ max_points) × (n * n ≤ length out.old) }
-    ensures { left out ≡ run (passed out) 0 (n * n) (Spec.difference (passed a) (passed x) n) (n * n) }
+    ensures { out.new ≡ run out.old 0 (n * n) (Spec.difference a.now x.now n) (n * n) }
 {
     let mut i = 0;
     while i < n {
@@ -41,8 +42,8 @@ fn differences(a: &[f64], x: &[f64], n: usize, out: &mut [f64])
 // The squares of the lengths of the first count vectors (x, y, z), or NaN where a rounding is not settled.
 fn square_lanes(x: &[f64], y: &[f64], z: &[f64], count: usize, out: &mut [f64])
     requires { (count ≤ length x.now) × (count ≤ length y.now) × (count ≤ length z.now) × (count ≤ length out.old) }
-    ensures out_value { left out ≡ run (passed out) 0 count (Spec.square_at (passed x) (passed y) (passed z)) count }
-    ensures by_index { (k : ℕ) → k < count → SquareOf (Spec.point (passed x) (passed y) (passed z) k) (at (left out) k) }
+    ensures out_value { out.new ≡ run out.old 0 count (Spec.square_at x.now y.now z.now) count }
+    ensures by_index { (k : ℕ) → k < count → SquareOf (Spec.point x.now y.now z.now k) (at out.new k) }
 {
     let mut k = 0;
     while k < count {
@@ -54,7 +55,7 @@ fn square_lanes(x: &[f64], y: &[f64], z: &[f64], count: usize, out: &mut [f64])
 // Guesses of the roots of the first count numbers.
 fn estimates(x: &[f64], count: usize, out: &mut [f64])
     requires { (count ≤ length x.now) × (count ≤ length out.old) }
-    ensures { left out ≡ run (passed out) 0 count (λ k. root_estimate (at (passed x) k)) count }
+    ensures { out.new ≡ run out.old 0 count (λ k. root_estimate (at x.now k)) count }
 {
     let mut k = 0;
     while k < count {
@@ -68,7 +69,7 @@ fn lengths(x: &[f64], y: &[f64], z: &[f64], s: &[f64], near: &[f64], count: usiz
     requires count_in_bounds { (count ≤ length x.now) × (count ≤ length y.now) × (count ≤ length z.now) }
     requires count_in_bounds_2 { (count ≤ length s.now) × (count ≤ length near.now) × (count ≤ length out.old) }
     requires by_index { (k : ℕ) → k < count → SquareOf (Spec.point x.now y.now z.now k) (at s.now k) }
-    ensures { left out ≡ run (passed out) 0 count (λ k. norm3 (Spec.point (passed x) (passed y) (passed z) k)) count }
+    ensures { out.new ≡ run out.old 0 count (λ k. norm3 (Spec.point x.now y.now z.now k)) count }
 {
     let mut k = 0;
     while k < count {
@@ -81,7 +82,7 @@ fn lengths(x: &[f64], y: &[f64], z: &[f64], s: &[f64], near: &[f64], count: usiz
 fn norms(x: &[f64], y: &[f64], z: &[f64], count: usize, out: &mut [f64])
     requires count_in_bounds { (count ≤ length x.now) × (count ≤ length y.now) × (count ≤ length z.now) }
     requires count_le_max_pairs { (count ≤ max_pairs) × (count ≤ length out.old) }
-    ensures { left out ≡ run (passed out) 0 count (λ k. norm3 (Spec.point (passed x) (passed y) (passed z) k)) count }
+    ensures { out.new ≡ run out.old 0 count (λ k. norm3 (Spec.point x.now y.now z.now k)) count }
 {
     let mut square = [0.0; MAX_PAIRS];
     let mut near = [0.0; MAX_PAIRS];
@@ -104,7 +105,7 @@ pub fn distances(
     requires n_in_bounds { (n ≤ length a.now) × (n ≤ length b.now) × (n ≤ length c.now) }
     requires n_in_bounds_2 { (n ≤ length x.now) × (n ≤ length y.now) × (n ≤ length z.now) }
     requires n_le_max_points { (n ≤ max_points) × (n * n ≤ length out.old) }
-    ensures { left out ≡ run (passed out) 0 (n * n) (Spec.distance (passed a) (passed b) (passed c) (passed x) (passed y) (passed z) n) (n * n) }
+    ensures { out.new ≡ run out.old 0 (n * n) (Spec.distance a.now b.now c.now x.now y.now z.now n) (n * n) }
 {
     let mut dx = [0.0; MAX_PAIRS];
     let mut dy = [0.0; MAX_PAIRS];

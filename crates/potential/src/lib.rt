@@ -1,4 +1,6 @@
 // boundary_element/triangle_potential.rs: exact static potential of a uniformly loaded flat triangle.
+#![tactic(auto)]
+
 ghost use Rattle.std.specs.Prelude.{◌≡◌, ◌<◌};
 ghost use Rattle.potential.specs.Potential as Spec;
 ghost use Rattle.potential.specs.Moderate as Moderate;
@@ -29,7 +31,7 @@ fn longer(a: f64, b: f64) -> f64
     if b > a { b } else { a }
 }
 
-#[derive(Drop)]
+#[derive(Clone, Copy)]
 struct Edge {
     tangent: [f64; 3],
     outward: [f64; 3],
@@ -108,7 +110,7 @@ fn subtract_scaled(a: [f64; 3], v: [f64; 3], s: f64) -> [f64; 3]
 }
 
 // Geometry of a triangle, worked out one time and kept whole.
-#[derive(Drop)]
+#[derive(Clone, Copy)]
 pub struct UniformTriangle {
     pub nodes: [f64; 9],
     pub normal: [f64; 3],

@@ -1,5 +1,7 @@
 // The potential at seven points at once, one step of the work for all points before the next, so that the compiler can lay out
 // the squared distances, the estimates of the roots and the elementary functions in lanes. Each number is that of one point.
+#![tactic(auto)]
+
 ghost use Rattle.std.specs.Prelude.{◌≡◌, ℕ, ◌<◌, ◌+◌, ◌/◌, ◌%◌};
 ghost use Rattle.binary64.specs.Binary64.{at, two, ◌⊗◌, ◌⊕◌, ◌⊖◌, ◌⊘◌};
 ghost use Rattle.ieee754.specs.Ieee754.{sqrt};

@@ -1,5 +1,7 @@
 // How a call says no: document 01's numbers, and an answer that has a value beside its number.
 // The numbers of document 01's table, by its words; specs/Numbers.antt has the same.
+#![tactic(auto)]
+
 pub const NODE_COLUMNS: u32 = 1;
 
 pub const PANEL_COLUMNS: u32 = 2;
@@ -39,7 +41,7 @@ pub const NO_PLACE: u32 = 18;
 pub const NOT_FINITE: u32 = 19;
 
 // A number of document 01's table, and a value, which is zero on a refusal.
-#[derive(Drop)]
+#[derive(Clone, Copy)]
 pub struct Answer {
     pub refusal: u32,
     pub value: f64,

@@ -1,6 +1,5 @@
 // Calls with a rule, a panel's record, and its halves.
 ghost use Rattle.std.specs.Prelude.{◌≡◌};
-ghost use Rattle.lists.specs.Lent.{passed};
 ghost use Rattle.replay_calls.specs.Kinds as Spec;
 
 use potential::UniformTriangle;
@@ -9,7 +8,7 @@ use replay_words::words::{
 };
 
 pub fn geometric_coupling(f: &[f64; 2048], w: &[u64; 2048]) -> bool
-    ensures { result ≡ Spec.geometric_coupling (passed f) (passed w) }
+    ensures { result ≡ Spec.geometric_coupling f.now w.now }
 {
     let rule = rule_of(w[0]);
     let a = coupling::calls::triangle_geometric_coupling(rule, triangle(f, 1), triangle(f, 10));
@@ -17,7 +16,7 @@ pub fn geometric_coupling(f: &[f64; 2048], w: &[u64; 2048]) -> bool
 }
 
 pub fn geometric_coupling_regular(f: &[f64; 2048], w: &[u64; 2048]) -> bool
-    ensures { result ≡ Spec.geometric_coupling_regular (passed f) (passed w) }
+    ensures { result ≡ Spec.geometric_coupling_regular f.now w.now }
 {
     let rule = rule_of(w[0]);
     let a = coupling::calls::triangle_geometric_coupling_regular(
@@ -29,7 +28,7 @@ pub fn geometric_coupling_regular(f: &[f64; 2048], w: &[u64; 2048]) -> bool
 }
 
 pub fn mutual_inductance_block(f: &[f64; 2048], w: &[u64; 2048]) -> bool
-    ensures { result ≡ Spec.mutual_inductance_block (passed f) (passed w) }
+    ensures { result ≡ Spec.mutual_inductance_block f.now w.now }
 {
     let rule = rule_of(w[0]);
     let a = coupling::calls::triangle_basis_mutual_inductance_block(
@@ -44,7 +43,7 @@ pub fn mutual_inductance_block(f: &[f64; 2048], w: &[u64; 2048]) -> bool
 }
 
 pub fn mutual_inductance(f: &[f64; 2048], w: &[u64; 2048]) -> bool
-    ensures { result ≡ Spec.mutual_inductance (passed f) (passed w) }
+    ensures { result ≡ Spec.mutual_inductance f.now w.now }
 {
     let rule = rule_of(w[0]);
     let i = w[10] as usize;
@@ -60,7 +59,7 @@ pub fn mutual_inductance(f: &[f64; 2048], w: &[u64; 2048]) -> bool
 }
 
 pub fn bisect(f: &[f64; 2048], w: &[u64; 2048]) -> bool
-    ensures { result ≡ Spec.bisect (passed f) (passed w) }
+    ensures { result ≡ Spec.bisect f.now w.now }
 {
     let h = panel_distance::bisection::longest_edge_bisection(triangle(f, 0));
     let a = same_triangle(h[0], w, 9);
@@ -69,7 +68,7 @@ pub fn bisect(f: &[f64; 2048], w: &[u64; 2048]) -> bool
 }
 
 pub fn panel_record(f: &[f64; 2048], w: &[u64; 2048]) -> bool
-    ensures { result ≡ Spec.panel_record (passed f) (passed w) }
+    ensures { result ≡ Spec.panel_record f.now w.now }
 {
     let p = UniformTriangle::new(triangle(f, 0));
     let nodes = p.nodes;
@@ -88,7 +87,7 @@ pub fn panel_record(f: &[f64; 2048], w: &[u64; 2048]) -> bool
 
 // By the kind's number.
 pub fn agree(kind: u64, f: &[f64; 2048], w: &[u64; 2048]) -> bool
-    ensures { result ≡ Spec.calls_agree kind (passed f) (passed w) }
+    ensures { result ≡ Spec.calls_agree kind f.now w.now }
 {
     if kind == 17 {
         return geometric_coupling(f, w);

@@ -1,12 +1,11 @@
 // Pairs of panels, of a point and a panel, and of segments.
 ghost use Rattle.std.specs.Prelude.{◌≡◌};
-ghost use Rattle.lists.specs.Lent.{passed};
 ghost use Rattle.replay_calls.specs.Kinds as Spec;
 
 use replay_words::words::{coordinates_at, same_flag, same_number, triangle, vector};
 
 pub fn identical(f: &[f64; 2048], w: &[u64; 2048]) -> bool
-    ensures { result ≡ Spec.identical (passed f) (passed w) }
+    ensures { result ≡ Spec.identical f.now w.now }
 {
     same_flag(
         boundary_element::identity::triangles_identical(triangle(f, 0), triangle(f, 9)),
@@ -16,7 +15,7 @@ pub fn identical(f: &[f64; 2048], w: &[u64; 2048]) -> bool
 }
 
 pub fn box_distance(f: &[f64; 2048], w: &[u64; 2048]) -> bool
-    ensures { result ≡ Spec.box_distance (passed f) (passed w) }
+    ensures { result ≡ Spec.box_distance f.now w.now }
 {
     same_number(
         panel_distance::distance::triangle_aabb_distance_squared(triangle(f, 0), triangle(f, 9)),
@@ -26,7 +25,7 @@ pub fn box_distance(f: &[f64; 2048], w: &[u64; 2048]) -> bool
 }
 
 pub fn panel_distance(f: &[f64; 2048], w: &[u64; 2048]) -> bool
-    ensures { result ≡ Spec.panel_distance (passed f) (passed w) }
+    ensures { result ≡ Spec.panel_distance f.now w.now }
 {
     same_number(
         panel_distance::distance::triangle_distance_squared(triangle(f, 0), triangle(f, 9)),
@@ -36,7 +35,7 @@ pub fn panel_distance(f: &[f64; 2048], w: &[u64; 2048]) -> bool
 }
 
 pub fn longest_edge(f: &[f64; 2048], w: &[u64; 2048]) -> bool
-    ensures { result ≡ Spec.longest_edge (passed f) (passed w) }
+    ensures { result ≡ Spec.longest_edge f.now w.now }
 {
     same_number(
         panel_distance::distance::triangle_max_edge_squared(triangle(f, 0)),
@@ -46,7 +45,7 @@ pub fn longest_edge(f: &[f64; 2048], w: &[u64; 2048]) -> bool
 }
 
 pub fn is_far(f: &[f64; 2048], w: &[u64; 2048]) -> bool
-    ensures { result ≡ Spec.is_far (passed f) (passed w) }
+    ensures { result ≡ Spec.is_far f.now w.now }
 {
     same_flag(
         coupling::coupling::is_far(triangle(f, 0), triangle(f, 9)),
@@ -56,7 +55,7 @@ pub fn is_far(f: &[f64; 2048], w: &[u64; 2048]) -> bool
 }
 
 pub fn point_distance(f: &[f64; 2048], w: &[u64; 2048]) -> bool
-    ensures { result ≡ Spec.point_distance (passed f) (passed w) }
+    ensures { result ≡ Spec.point_distance f.now w.now }
 {
     same_number(
         panel_distance::distance::point_triangle_distance_squared(vector(f, 0), triangle(f, 3)),
@@ -66,7 +65,7 @@ pub fn point_distance(f: &[f64; 2048], w: &[u64; 2048]) -> bool
 }
 
 pub fn segment_distance(f: &[f64; 2048], w: &[u64; 2048]) -> bool
-    ensures { result ≡ Spec.segment_distance (passed f) (passed w) }
+    ensures { result ≡ Spec.segment_distance f.now w.now }
 {
     same_number(
         panel_distance::distance::segment_distance_squared(
@@ -81,7 +80,7 @@ pub fn segment_distance(f: &[f64; 2048], w: &[u64; 2048]) -> bool
 }
 
 pub fn block_energy(f: &[f64; 2048], w: &[u64; 2048]) -> bool
-    ensures { result ≡ Spec.block_energy (passed f) (passed w) }
+    ensures { result ≡ Spec.block_energy f.now w.now }
 {
     same_number(
         coupling::block::triangle_inductance_from_potential_vectors(
@@ -96,7 +95,7 @@ pub fn block_energy(f: &[f64; 2048], w: &[u64; 2048]) -> bool
 
 // By the kind's number.
 pub fn agree(kind: u64, f: &[f64; 2048], w: &[u64; 2048]) -> bool
-    ensures { result ≡ Spec.pairs_agree kind (passed f) (passed w) }
+    ensures { result ≡ Spec.pairs_agree kind f.now w.now }
 {
     if kind == 41 {
         return identical(f, w);

@@ -1,6 +1,5 @@
 // A case's head, and its words, numbers and places from its bytes.
 ghost use Rattle.std.specs.Prelude.{◌≡◌, ◌<◌, ◌≤◌, length};
-ghost use Rattle.lists.specs.Lent.{passed};
 ghost use Rattle.panel_file.specs.LittleEndian.{little_endian};
 ghost use Rattle.replay_words.specs.Words.{size_of};
 ghost use Rattle.replay_cases.specs.Case as Spec;
@@ -8,7 +7,7 @@ ghost use Rattle.replay_cases.specs.Case as Spec;
 // The kind of a case, from its first two words.
 pub fn kind(head: &[u8]) -> u64
     requires { 16 ≤ length head.now }
-    ensures { result ≡ little_endian 4 (passed head) 0 }
+    ensures { result ≡ little_endian 4 head.now 0 }
 {
     panel_file::little_endian(head, 0, 4)
 }
@@ -16,7 +15,7 @@ pub fn kind(head: &[u8]) -> u64
 // How many words of input and of results follow them, or 2,049 if these are more than 2,048.
 pub fn size(head: &[u8]) -> usize
     requires { 16 ≤ length head.now }
-    ensures value { result ≡ size_of (little_endian 4 (passed head) 4) (little_endian 8 (passed head) 8) }
+    ensures value { result ≡ size_of (little_endian 4 head.now 4) (little_endian 8 head.now 8) }
     ensures upper_bound { result ≤ 2049 }
 {
     let inputs = panel_file::little_endian(head, 4, 4);
@@ -32,7 +31,7 @@ pub fn size(head: &[u8]) -> usize
 
 fn word_at(b: &[u8; 16384], k: usize) -> u64
     requires { k < 2048 }
-    ensures { result ≡ Spec.word_at (passed b) k }
+    ensures { result ≡ Spec.word_at b.now k }
 {
     let all = &b[..];
     panel_file::little_endian(all, k * 8, 8)
@@ -40,20 +39,20 @@ fn word_at(b: &[u8; 16384], k: usize) -> u64
 
 fn number_at(w: &[u64; 2048], k: usize) -> f64
     requires { k < 2048 }
-    ensures { result ≡ Spec.number_at (passed w) k }
+    ensures { result ≡ Spec.number_at w.now k }
 {
     panel_file::from_bits(w[k])
 }
 
 fn place_at(w: &[u64; 2048], k: usize) -> usize
     requires { k < 2048 }
-    ensures { result ≡ Spec.place_at (passed w) k }
+    ensures { result ≡ Spec.place_at w.now k }
 {
     w[k] as usize
 }
 
 pub fn words(b: &[u8; 16384]) -> [u64; 2048]
-    ensures { result ≡ Spec.words_of (passed b) }
+    ensures { result ≡ Spec.words_of b.now }
 {
     let mut w = [0u64; 2048];
     let mut i = 0usize;
@@ -65,7 +64,7 @@ pub fn words(b: &[u8; 16384]) -> [u64; 2048]
 }
 
 pub fn numbers(w: &[u64; 2048]) -> [f64; 2048]
-    ensures { result ≡ Spec.numbers_of (passed w) }
+    ensures { result ≡ Spec.numbers_of w.now }
 {
     let mut f = [0.0f64; 2048];
     let mut i = 0usize;
@@ -77,7 +76,7 @@ pub fn numbers(w: &[u64; 2048]) -> [f64; 2048]
 }
 
 pub fn places(w: &[u64; 2048]) -> [usize; 2048]
-    ensures { result ≡ Spec.places_of (passed w) }
+    ensures { result ≡ Spec.places_of w.now }
 {
     let mut u = [0usize; 2048];
     let mut i = 0usize;

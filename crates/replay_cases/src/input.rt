@@ -1,6 +1,5 @@
 // The cases of standard input. What is read no contract can say.
 ghost use Rattle.std.specs.Prelude.{◌≡◌, ◌≤◌, replicate};
-ghost use Rattle.lists.specs.Lent.{passed};
 ghost use Rattle.replay_cases.specs.Case as Spec;
 
 use crate::case;
@@ -21,6 +20,8 @@ pub fn mark() {
 // The bytes behind a head that says so many words.
 fn bytes(size: usize) -> [u8; 16384]
     requires { size ≤ 2048 }
+ -> [u8; 16384]
+    requires { size ≤ 2048 }
 {
     let mut b = [0u8; 16384];
     io::read_full(0, &mut b[0..size * 8]);
@@ -38,7 +39,7 @@ fn none() -> Case
 
 // The case whose head this is; none if it has a kind or a size that no buffer here holds.
 fn behind(head: &[u8; 16]) -> Case
-    ensures { result.kind ≡ Spec.kind_of (passed head) }
+    ensures { result.kind ≡ Spec.kind_of head.now }
 {
     let all = &head[..];
     let kind = case::kind(all);

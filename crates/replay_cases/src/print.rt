@@ -1,6 +1,5 @@
 // The table. What is written no contract can say; each answers how many differ.
 ghost use Rattle.std.specs.Prelude.{◌≡◌, ◌+◌, ◌*◌, ◌<◌, ◌≤◌, length};
-ghost use Rattle.lists.specs.Lent.{passed};
 ghost use Rattle.replay_cases.specs.Tally as Spec;
 
 // Each name has 18 bytes, and the one of kind k stands at its place.
@@ -21,7 +20,7 @@ fn line(names: &[u8], k: usize, cases: u64, differ: u64) -> u64
 // The lines of the kinds that have cases.
 fn lines(names: &[u8], cases: &[u64; 128], differ: &[u64; 128]) -> u64
     requires { 2304 ≤ length names.now }
-    ensures { result ≡ Spec.total (passed differ) 128 }
+    ensures { result ≡ Spec.total differ.now 128 }
 {
     let mut sum = 0;
     let mut k = 0usize;
@@ -35,7 +34,7 @@ fn lines(names: &[u8], cases: &[u64; 128], differ: &[u64; 128]) -> u64
 
 // The same under the kinds' names.
 fn named_lines(cases: &[u64; 128], differ: &[u64; 128]) -> u64
-    ensures { result ≡ Spec.total (passed differ) 128 }
+    ensures { result ≡ Spec.total differ.now 128 }
 {
     lines(
         b"-                 fma               sqrt              ln                asinh             atan2             dot3              cross3            \
@@ -61,7 +60,7 @@ fn named_lines(cases: &[u64; 128], differ: &[u64; 128]) -> u64
 
 // For each kind how many cases there are and how many differ; the last line is the sum.
 pub fn table(cases: &[u64; 128], differ: &[u64; 128]) -> u64
-    ensures { result ≡ Spec.total (passed differ) 128 }
+    ensures { result ≡ Spec.total differ.now 128 }
 {
     let sum = named_lines(cases, differ);
     io::print_decimal(1, sum);

@@ -1,6 +1,5 @@
 // What a call has left of a mesh' columns of nodes and of a matrix: the stored results, or on a refusal what was there before.
 ghost use Rattle.std.specs.Prelude.{◌≡◌, ◌+◌, ◌≤◌, length};
-ghost use Rattle.lists.specs.Lent.{passed};
 ghost use Rattle.replay_columns.specs.After as Spec;
 
 use replay_words::buffers::kept;
@@ -20,7 +19,7 @@ pub fn kept_columns(
 ) -> bool
     requires z_bound { k + length x.now + length y.now + length z.now ≤ 2048 }
     requires x_len { (length x.now ≡ length x0.now) × (length y.now ≡ length y0.now) × (length z.now ≡ length z0.now) }
-    ensures { result ≡ Spec.kept_columns refusal (passed x) (passed y) (passed z) (passed x0) (passed y0) (passed z0) (passed w) k }
+    ensures { result ≡ Spec.kept_columns refusal x.now y.now z.now x0.now y0.now z0.now w.now k }
 {
     let p = k + x.len();
     let q = p + y.len();
@@ -47,8 +46,8 @@ pub fn left_as_due(
 ) -> bool
     requires z_bound { k + 2 + length cells.now + length x.now + length y.now + length z.now ≤ 2048 }
     requires as_long { Spec.AsLong x.now y.now z.now cells.now x0.now y0.now z0.now cells0.now }
-    ensures { result ≡ Spec.left_as_due refusal count (passed x) (passed y) (passed z) (passed cells)
-        (passed x0) (passed y0) (passed z0) (passed cells0) (passed w) k }
+    ensures { result ≡ Spec.left_as_due refusal count x.now y.now z.now cells.now
+        x0.now y0.now z0.now cells0.now w.now k }
 {
     let p = k + 2 + cells.len();
     let a = same_count(refusal, count, w, k);

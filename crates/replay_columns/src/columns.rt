@@ -1,7 +1,6 @@
 // The columns of a mesh that begins at place k of a case: x, y, z, then the panels' three corners. The case's words stand in f as
 // numbers and in u as places.
 ghost use Rattle.std.specs.Prelude.{◌≡◌, ◌≤◌, length};
-ghost use Rattle.lists.specs.Lent.{passed};
 ghost use Rattle.replay_columns.specs.Columns as Spec;
 
 use replay_words::words::column_end;
@@ -9,7 +8,7 @@ use replay_words::words::column_end;
 // The place of the length of column i; that of column 6 is the place behind the mesh.
 pub fn column_at(w: &[u64; 2048], k: usize, i: usize) -> usize
     requires { (k ≤ 1) × (i ≤ 6) }
-    ensures { (result ≡ Spec.column_at (passed w) k i) × (result ≤ 298) }
+    ensures { (result ≡ Spec.column_at w.now k i) × (result ≤ 298) }
 {
     let mut at = k;
     let mut j = 0usize;
@@ -22,7 +21,7 @@ pub fn column_at(w: &[u64; 2048], k: usize, i: usize) -> usize
 
 pub fn nodes<'a>(f: &'a [f64; 2048], w: &[u64; 2048], k: usize, i: usize) -> &'a [f64]
     requires { (k ≤ 1) × (i ≤ 5) }
-    ensures { (result.now ≡ Spec.column (passed f) (passed w) k i) × (length result.now ≤ 48) }
+    ensures { (result.now ≡ Spec.column f.now w.now k i) × (length result.now ≤ 48) }
 {
     let a = column_at(w, k, i);
     let e = column_end(w, a);
@@ -32,7 +31,7 @@ pub fn nodes<'a>(f: &'a [f64; 2048], w: &[u64; 2048], k: usize, i: usize) -> &'a
 
 pub fn panels<'a>(u: &'a [usize; 2048], w: &[u64; 2048], k: usize, i: usize) -> &'a [usize]
     requires { (k ≤ 1) × (i ≤ 5) }
-    ensures { result.now ≡ Spec.column (passed u) (passed w) k i }
+    ensures { result.now ≡ Spec.column u.now w.now k i }
 {
     let a = column_at(w, k, i);
     let e = column_end(w, a);

@@ -1,7 +1,6 @@
 // The parts of a store that begins at place q of a case: marks, names, then the columns x, y, z; behind them a name. The case's
 // bytes stand in b, eight to a word, and its words in f as numbers.
 ghost use Rattle.std.specs.Prelude.{◌≡◌, ◌+◌, ◌*◌, ◌≤◌, length};
-ghost use Rattle.lists.specs.Lent.{passed};
 ghost use Rattle.replay_columns.specs.Store as Spec;
 
 use replay_words::bytes::bytes_end;
@@ -10,7 +9,7 @@ use replay_words::words::cut_at;
 // The place behind part i, whose length stands at place k.
 fn part_end(w: &[u64; 2048], k: usize, i: usize) -> usize
     requires { k ≤ 1280 }
-    ensures { (result ≡ Spec.part_end (passed w) k i) × (result ≤ k + 81) }
+    ensures { (result ≡ Spec.part_end w.now k i) × (result ≤ k + 81) }
 {
     let n = cut_at(w, k, 80);
     if i < 2 {
@@ -22,7 +21,7 @@ fn part_end(w: &[u64; 2048], k: usize, i: usize) -> usize
 // The place of the length of part i; that of part 5 is the place of the name.
 pub fn part_at(w: &[u64; 2048], q: usize, i: usize) -> usize
     requires { (q ≤ 875) × (i ≤ 5) }
-    ensures { (result ≡ Spec.part_at (passed w) q i) × (result ≤ q + 81 * i) }
+    ensures { (result ≡ Spec.part_at w.now q i) × (result ≤ q + 81 * i) }
 {
     let mut at = q;
     let mut j = 0usize;
@@ -36,7 +35,7 @@ pub fn part_at(w: &[u64; 2048], q: usize, i: usize) -> usize
 // Part i, of bytes.
 pub fn bytes_part<'a>(b: &'a [u8; 16384], w: &[u64; 2048], q: usize, i: usize) -> &'a [u8]
     requires { (q ≤ 875) × (i ≤ 1) }
-    ensures { (result.now ≡ Spec.bytes_at (passed b) (passed w) (Spec.part_at (passed w) q i)) × (length result.now ≤ 80) }
+    ensures { (result.now ≡ Spec.bytes_at b.now w.now (Spec.part_at w.now q i)) × (length result.now ≤ 80) }
 {
     let k = part_at(w, q, i);
     let n = cut_at(w, k, 80);
@@ -48,7 +47,7 @@ pub fn bytes_part<'a>(b: &'a [u8; 16384], w: &[u64; 2048], q: usize, i: usize) -
 // Part i, of numbers.
 pub fn numbers_part<'a>(f: &'a [f64; 2048], w: &[u64; 2048], q: usize, i: usize) -> &'a [f64]
     requires { (q ≤ 875) × (i ≤ 4) }
-    ensures { (result.now ≡ Spec.numbers_at (passed f) (passed w) (Spec.part_at (passed w) q i)) × (length result.now ≤ 80) }
+    ensures { (result.now ≡ Spec.numbers_at f.now w.now (Spec.part_at w.now q i)) × (length result.now ≤ 80) }
 {
     let k = part_at(w, q, i);
     let n = cut_at(w, k, 80);
@@ -59,7 +58,7 @@ pub fn numbers_part<'a>(f: &'a [f64; 2048], w: &[u64; 2048], q: usize, i: usize)
 // The name in the word at place k.
 pub fn name_at(b: &[u8; 16384], k: usize) -> [u8; 8]
     requires { k ≤ 1280 }
-    ensures { result ≡ Spec.name_at (passed b) k }
+    ensures { result ≡ Spec.name_at b.now k }
 {
     let j = 8 * k;
     [

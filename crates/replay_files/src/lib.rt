@@ -1,6 +1,7 @@
 // A panel file's bytes: the reader, and the program `density`. The case's bytes stand in b, eight to a word.
+#![tactic(auto)]
+
 ghost use Rattle.std.specs.Prelude.{◌≡◌, ◌+◌, ◌≤◌, length};
-ghost use Rattle.lists.specs.Lent.{passed};
 ghost use Rattle.replay_files.specs.Files as Spec;
 
 use replay_words::buffers::{held, held_places};
@@ -9,7 +10,7 @@ use replay_words::words::{cut_at, length_at, same_word};
 
 fn held_nodes(refusal: u32, x: &[f64], y: &[f64], z: &[f64], w: &[u64; 2048], k: usize) -> bool
     requires { k + length x.now + length y.now + length z.now ≤ 2048 }
-    ensures { result ≡ Spec.held_nodes refusal (passed x) (passed y) (passed z) (passed w) k }
+    ensures { result ≡ Spec.held_nodes refusal x.now y.now z.now w.now k }
 {
     let p = k + x.len();
     let q = p + y.len();
@@ -28,7 +29,7 @@ fn held_panels(
     k: usize,
 ) -> bool
     requires { k + length t0.now + length t1.now + length t2.now ≤ 2048 }
-    ensures { result ≡ Spec.held_panels refusal (passed t0) (passed t1) (passed t2) (passed w) k }
+    ensures { result ≡ Spec.held_panels refusal t0.now t1.now t2.now w.now k }
 {
     let p = k + t0.len();
     let q = p + t1.len();
@@ -51,7 +52,7 @@ fn held_columns(
     k: usize,
 ) -> bool
     requires { Spec.Short x.now y.now z.now t0.now t1.now t2.now k }
-    ensures { result ≡ Spec.held_columns refusal (passed x) (passed y) (passed z) (passed t0) (passed t1) (passed t2) (passed w) k }
+    ensures { result ≡ Spec.held_columns refusal x.now y.now z.now t0.now t1.now t2.now w.now k }
 {
     let p = k + 1 + x.len() + y.len() + z.len();
     let a = same_word(refusal as u64, w, k);
@@ -73,7 +74,7 @@ fn read_file_into(
     k: usize,
 ) -> bool
     requires { Spec.Short x.old y.old z.old t0.old t1.old t2.old k }
-    ensures { result ≡ Spec.read_file_into (passed bytes) (passed x) (passed y) (passed z) (passed t0) (passed t1) (passed t2) (passed w) k }
+    ensures { result ≡ Spec.read_file_into bytes.now x.old y.old z.old t0.old t1.old t2.old w.now k }
 {
     let refusal = panel_file::read_panel_file(bytes, x, y, z, t0, t1, t2);
     held_columns(refusal, x, y, z, t0, t1, t2, w, k)
@@ -89,7 +90,7 @@ fn read_panels_into(
     q: usize,
 ) -> bool
     requires { (length x.old ≤ 64) × (length y.old ≤ 64) × (length z.old ≤ 64) × (q ≤ 65) }
-    ensures { result ≡ Spec.read_panels_into (passed bytes) (passed x) (passed y) (passed z) (passed w) q }
+    ensures { result ≡ Spec.read_panels_into bytes.now x.old y.old z.old w.now q }
 {
     let n0 = length_at(w, q + 3);
     let n1 = length_at(w, q + 4);
@@ -113,7 +114,7 @@ fn read_panels_into(
 // The six lengths begin at place q.
 fn read_file_of(bytes: &[u8], w: &[u64; 2048], q: usize) -> bool
     requires { q ≤ 65 }
-    ensures { result ≡ Spec.read_file_of (passed bytes) (passed w) q }
+    ensures { result ≡ Spec.read_file_of bytes.now w.now q }
 {
     let nx = length_at(w, q);
     let ny = length_at(w, q + 1);
@@ -125,7 +126,7 @@ fn read_file_of(bytes: &[u8], w: &[u64; 2048], q: usize) -> bool
 }
 
 fn read_file(b: &[u8; 16384], w: &[u64; 2048]) -> bool
-    ensures { result ≡ Spec.read_file (passed b) (passed w) }
+    ensures { result ≡ Spec.read_file b.now w.now }
 {
     let n = cut_at(w, 0, 512);
     let q = bytes_end(n);
@@ -135,7 +136,7 @@ fn read_file(b: &[u8; 16384], w: &[u64; 2048]) -> bool
 
 // Whether the program prints so for an input.
 fn prints(input: &[u8], stored: &[u8]) -> bool
-    ensures { result ≡ Spec.prints (passed input) (passed stored) }
+    ensures { result ≡ Spec.prints input.now stored.now }
 {
     let mut output = [0u8; 7054];
     let k = density_text::density_text(input, &mut output);
@@ -143,7 +144,7 @@ fn prints(input: &[u8], stored: &[u8]) -> bool
 }
 
 fn density_program(b: &[u8; 16384], w: &[u64; 2048]) -> bool
-    ensures { result ≡ Spec.density_program (passed b) (passed w) }
+    ensures { result ≡ Spec.density_program b.now w.now }
 {
     let n = cut_at(w, 0, 512);
     let q = bytes_end(n);
@@ -155,7 +156,7 @@ fn density_program(b: &[u8; 16384], w: &[u64; 2048]) -> bool
 
 // By the kind's number.
 pub fn agree(kind: u64, b: &[u8; 16384], w: &[u64; 2048]) -> bool
-    ensures { result ≡ Spec.files_agree kind (passed b) (passed w) }
+    ensures { result ≡ Spec.files_agree kind b.now w.now }
 {
     if kind == 33 {
         return read_file(b, w);

@@ -1,6 +1,5 @@
 // The flux linkage: a map, coefficients and the length of the output.
 ghost use Rattle.std.specs.Prelude.{◌≡◌, ◌+◌, ◌≤◌, length};
-ghost use Rattle.lists.specs.Lent.{passed};
 ghost use Rattle.replay_maps.specs.Maps as Spec;
 
 use replay_words::buffers::held;
@@ -9,7 +8,7 @@ use replay_words::words::{length_at, same_word};
 // The call, its number and its buffer compared.
 fn flux_into(map: &[f64], cs: &[f64], out: &mut [f64], w: &[u64; 2048], k: usize) -> bool
     requires { k + 1 + length out.old ≤ 2048 }
-    ensures { result ≡ Spec.flux_into (passed map) (passed cs) (passed out) (passed w) k }
+    ensures { result ≡ Spec.flux_into map.now cs.now out.old w.now k }
 {
     let refusal = linkage::flux::triangle_mesh_flux_linkage_from_source_coefficients(map, cs, out);
     let a = same_word(refusal as u64, w, k);
@@ -18,7 +17,7 @@ fn flux_into(map: &[f64], cs: &[f64], out: &mut [f64], w: &[u64; 2048], k: usize
 }
 
 pub fn flux(f: &[f64; 2048], w: &[u64; 2048]) -> bool
-    ensures { result ≡ Spec.flux (passed f) (passed w) }
+    ensures { result ≡ Spec.flux f.now w.now }
 {
     let n = length_at(w, 0);
     let m = length_at(w, n + 1);

@@ -1,13 +1,12 @@
 // Energies and the flux linkage: the matrix or map, then the vectors, each as its length and its numbers.
 ghost use Rattle.std.specs.Prelude.{◌≡◌};
-ghost use Rattle.lists.specs.Lent.{passed};
 ghost use Rattle.replay_maps.specs.Maps as Spec;
 
 use crate::fluxes::flux;
 use replay_words::words::{length_at, same_value};
 
 pub fn energy1(f: &[f64; 2048], w: &[u64; 2048]) -> bool
-    ensures { result ≡ Spec.energy1 (passed f) (passed w) }
+    ensures { result ≡ Spec.energy1 f.now w.now }
 {
     let n = length_at(w, 0);
     let m = length_at(w, n + 1);
@@ -19,7 +18,7 @@ pub fn energy1(f: &[f64; 2048], w: &[u64; 2048]) -> bool
 }
 
 pub fn energy2(f: &[f64; 2048], w: &[u64; 2048]) -> bool
-    ensures { result ≡ Spec.energy2 (passed f) (passed w) }
+    ensures { result ≡ Spec.energy2 f.now w.now }
 {
     let n = length_at(w, 0);
     let m = length_at(w, n + 1);
@@ -33,7 +32,7 @@ pub fn energy2(f: &[f64; 2048], w: &[u64; 2048]) -> bool
 }
 
 pub fn interaction(f: &[f64; 2048], w: &[u64; 2048]) -> bool
-    ensures { result ≡ Spec.interaction (passed f) (passed w) }
+    ensures { result ≡ Spec.interaction f.now w.now }
 {
     let n = length_at(w, 0);
     let m = length_at(w, n + 1);
@@ -52,7 +51,7 @@ pub fn interaction(f: &[f64; 2048], w: &[u64; 2048]) -> bool
 
 // By the kind's number.
 pub fn agree(kind: u64, f: &[f64; 2048], w: &[u64; 2048]) -> bool
-    ensures { result ≡ Spec.maps_agree kind (passed f) (passed w) }
+    ensures { result ≡ Spec.maps_agree kind f.now w.now }
 {
     if kind == 26 {
         return energy2(f, w);

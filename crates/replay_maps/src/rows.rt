@@ -1,12 +1,11 @@
 // Rows: the length of the matrix or map, its width and a node; the answer is a number, where the row begins and how long it is.
 ghost use Rattle.std.specs.Prelude.{◌≡◌};
-ghost use Rattle.lists.specs.Lent.{passed};
 ghost use Rattle.replay_maps.specs.Maps as Spec;
 
 use replay_words::words::{same_place, size_at};
 
 pub fn row_matrix(f: &[f64; 2048], w: &[u64; 2048]) -> bool
-    ensures { result ≡ Spec.row_matrix (passed f) (passed w) }
+    ensures { result ≡ Spec.row_matrix f.now w.now }
 {
     let size = size_at(w, 0);
     let n = w[1] as usize;
@@ -26,7 +25,7 @@ pub fn row_matrix(f: &[f64; 2048], w: &[u64; 2048]) -> bool
 }
 
 pub fn row_map(f: &[f64; 2048], w: &[u64; 2048]) -> bool
-    ensures { result ≡ Spec.row_map (passed f) (passed w) }
+    ensures { result ≡ Spec.row_map f.now w.now }
 {
     let size = size_at(w, 0);
     let n = w[1] as usize;
@@ -41,7 +40,7 @@ pub fn row_map(f: &[f64; 2048], w: &[u64; 2048]) -> bool
 
 // By the kind's number.
 pub fn agree(kind: u64, f: &[f64; 2048], w: &[u64; 2048]) -> bool
-    ensures { result ≡ Spec.rows_agree kind (passed f) (passed w) }
+    ensures { result ≡ Spec.rows_agree kind f.now w.now }
 {
     if kind == 31 {
         return row_matrix(f, w);

@@ -1,6 +1,5 @@
 // The display value.
 ghost use Rattle.std.specs.Prelude.{◌≡◌};
-ghost use Rattle.lists.specs.Lent.{passed};
 ghost use Rattle.replay_maps.specs.Shown as Spec;
 
 use replay_words::words::same_word;
@@ -20,7 +19,7 @@ fn signed(n: u64) -> i64
 }
 
 pub fn display(f: &[f64; 2048], w: &[u64; 2048]) -> bool
-    ensures { result ≡ Spec.display (passed f) (passed w) }
+    ensures { result ≡ Spec.display f.now w.now }
 {
     let shown = display::display(f[0]);
     let value = shown.value;
@@ -31,7 +30,7 @@ pub fn display(f: &[f64; 2048], w: &[u64; 2048]) -> bool
 
 // By the kind's number.
 pub fn agree(kind: u64, f: &[f64; 2048], w: &[u64; 2048]) -> bool
-    ensures { result ≡ Spec.shown_agree kind (passed f) (passed w) }
+    ensures { result ≡ Spec.shown_agree kind f.now w.now }
 {
     if kind == 35 {
         return display(f, w);

@@ -1,6 +1,7 @@
 // The inductance matrix: behind the rule and the mesh stands the length of the output.
+#![tactic(auto)]
+
 ghost use Rattle.std.specs.Prelude.{◌≡◌, ◌+◌, ◌≤◌, length};
-ghost use Rattle.lists.specs.Lent.{passed};
 ghost use Rattle.mesh.specs.Mesh.{passed_mesh};
 ghost use Rattle.replay_matrices.specs.Matrices as Spec;
 
@@ -22,7 +23,7 @@ fn matrix_into(
     k: usize,
 ) -> bool
     requires { k + 1 + length out.old ≤ 2048 }
-    ensures { result ≡ Spec.matrix_into rule (passed_mesh x y z t0 t1 t2) (passed out) (passed w) k }
+    ensures { result ≡ Spec.matrix_into rule (passed_mesh x y z t0 t1 t2) out.old w.now k }
 {
     let refusal = inductance::triangle_mesh_inductance_matrix(rule, x, y, z, t0, t1, t2, out);
     let a = same_word(refusal as u64, w, k);
@@ -42,7 +43,7 @@ fn matrix_of(
     g: usize,
 ) -> bool
     requires { g ≤ 298 }
-    ensures { result ≡ Spec.matrix_of rule (passed_mesh x y z t0 t1 t2) (passed w) g }
+    ensures { result ≡ Spec.matrix_of rule (passed_mesh x y z t0 t1 t2) w.now g }
 {
     let n = cut_at(w, g, 576);
     let mut out = [77.0f64; 576];
@@ -51,7 +52,7 @@ fn matrix_of(
 
 // The matrix of a case.
 fn matrix_case(f: &[f64; 2048], u: &[usize; 2048], w: &[u64; 2048]) -> bool
-    ensures { result ≡ Spec.matrix_case (passed f) (passed u) (passed w) }
+    ensures { result ≡ Spec.matrix_case f.now u.now w.now }
 {
     let rule = rule_of(w[0]);
     let x = nodes(f, w, 1, 0);
@@ -66,7 +67,7 @@ fn matrix_case(f: &[f64; 2048], u: &[usize; 2048], w: &[u64; 2048]) -> bool
 
 // By the kind's number.
 pub fn agree(kind: u64, f: &[f64; 2048], u: &[usize; 2048], w: &[u64; 2048]) -> bool
-    ensures { result ≡ Spec.matrices_agree kind (passed f) (passed u) (passed w) }
+    ensures { result ≡ Spec.matrices_agree kind f.now u.now w.now }
 {
     if kind == 25 {
         return matrix_case(f, u, w);

@@ -1,6 +1,5 @@
 // A case by its mesh, taken from its columns. The words stand in u as places.
 ghost use Rattle.std.specs.Prelude.{◌≡◌, ◌≤◌};
-ghost use Rattle.lists.specs.Lent.{passed};
 ghost use Rattle.mesh.specs.Mesh.{passed_mesh};
 ghost use Rattle.replay_meshes.specs.Meshes as Spec;
 
@@ -20,7 +19,7 @@ fn mesh_test_of(
     g: usize,
 ) -> bool
     requires { g ≤ 298 }
-    ensures { result ≡ Spec.mesh_test_of (passed_mesh x y z t0 t1 t2) (passed w) g }
+    ensures { result ≡ Spec.mesh_test_of (passed_mesh x y z t0 t1 t2) w.now g }
 {
     let tested = mesh::validate_triangle_mesh_geometry(x, y, z, t0, t1, t2);
     same_count(tested.refusal, tested.poor, w, g)
@@ -40,7 +39,7 @@ fn of_mesh(
     g: usize,
 ) -> bool
     requires { g ≤ 298 }
-    ensures { result ≡ Spec.of_mesh kind (passed_mesh x y z t0 t1 t2) (passed f) (passed w) g }
+    ensures { result ≡ Spec.of_mesh kind (passed_mesh x y z t0 t1 t2) f.now w.now g }
 {
     if kind == 20 {
         return mesh_test_of(x, y, z, t0, t1, t2, w, g);
@@ -58,7 +57,7 @@ fn of_mesh(
 // The mesh begins at place k.
 fn with_mesh(kind: u64, f: &[f64; 2048], u: &[usize; 2048], w: &[u64; 2048], k: usize) -> bool
     requires { k ≤ 1 }
-    ensures { result ≡ Spec.with_mesh kind (passed f) (passed u) (passed w) k }
+    ensures { result ≡ Spec.with_mesh kind f.now u.now w.now k }
 {
     let x = nodes(f, w, k, 0);
     let y = nodes(f, w, k, 1);
@@ -72,7 +71,7 @@ fn with_mesh(kind: u64, f: &[f64; 2048], u: &[usize; 2048], w: &[u64; 2048], k: 
 
 // The mesh is the first input, or stands behind a rule.
 pub fn agree(kind: u64, f: &[f64; 2048], u: &[usize; 2048], w: &[u64; 2048]) -> bool
-    ensures { result ≡ Spec.meshes_agree kind (passed f) (passed u) (passed w) }
+    ensures { result ≡ Spec.meshes_agree kind f.now u.now w.now }
 {
     if kind == 21 {
         return with_mesh(kind, f, u, w, 1);

@@ -1,6 +1,5 @@
 // The current densities: behind the mesh stand nodal values and the lengths of three outputs.
 ghost use Rattle.std.specs.Prelude.{◌≡◌, ◌+◌, ◌≤◌, length};
-ghost use Rattle.lists.specs.Lent.{passed};
 ghost use Rattle.mesh.specs.Mesh.{passed_mesh};
 ghost use Rattle.replay_meshes.specs.Meshes as Spec;
 
@@ -24,7 +23,7 @@ fn densities_into(
     k: usize,
 ) -> bool
     requires { k + 1 + length jx.old + length jy.old + length jz.old ≤ 2048 }
-    ensures { result ≡ Spec.densities_into (passed_mesh x y z t0 t1 t2) (passed s) (passed jx) (passed jy) (passed jz) (passed w) k }
+    ensures { result ≡ Spec.densities_into (passed_mesh x y z t0 t1 t2) s.now jx.old jy.old jz.old w.now k }
 {
     let p = k + 1 + jx.len();
     let q = p + jy.len();
@@ -50,7 +49,7 @@ pub fn densities_of(
     g: usize,
 ) -> bool
     requires { g ≤ 298 }
-    ensures { result ≡ Spec.densities_of (passed_mesh x y z t0 t1 t2) (passed f) (passed w) g }
+    ensures { result ≡ Spec.densities_of (passed_mesh x y z t0 t1 t2) f.now w.now g }
 {
     let h = column_end(w, g);
     let all = &f[..];

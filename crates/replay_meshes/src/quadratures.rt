@@ -1,6 +1,5 @@
 // The quadrature points: behind the mesh stand the lengths of four outputs.
 ghost use Rattle.std.specs.Prelude.{◌≡◌, ◌+◌, ◌≤◌, length};
-ghost use Rattle.lists.specs.Lent.{passed};
 ghost use Rattle.mesh.specs.Mesh.{passed_mesh};
 ghost use Rattle.replay_meshes.specs.Meshes as Spec;
 
@@ -25,7 +24,7 @@ fn quadrature_into(
     k: usize,
 ) -> bool
     requires { k + 1 + length px.old + length py.old + length pz.old + length pw.old ≤ 2048 }
-    ensures { result ≡ Spec.quadrature_into rule (passed_mesh x y z t0 t1 t2) (passed px) (passed py) (passed pz) (passed pw) (passed w) k }
+    ensures { result ≡ Spec.quadrature_into rule (passed_mesh x y z t0 t1 t2) px.old py.old pz.old pw.old w.now k }
 {
     let p = k + 1 + px.len();
     let q = p + py.len();
@@ -53,7 +52,7 @@ pub fn quadrature_of(
     g: usize,
 ) -> bool
     requires { g ≤ 298 }
-    ensures { result ≡ Spec.quadrature_of rule (passed_mesh x y z t0 t1 t2) (passed w) g }
+    ensures { result ≡ Spec.quadrature_of rule (passed_mesh x y z t0 t1 t2) w.now g }
 {
     let nx = length_at(w, g);
     let ny = length_at(w, g + 1);

@@ -1,7 +1,8 @@
 // The move of a node: behind the rule and the mesh stand the matrix, the node and its new place. The call is lent copies of what it changes.
+#![tactic(auto)]
+
 ghost use Rattle.std.specs.Prelude.{◌≡◌, ◌+◌, ◌≤◌, length};
-ghost use Rattle.lists.specs.Lent.{passed};
-ghost use Rattle.mesh.specs.Mesh.{passed_mesh};
+ghost use Rattle.mesh.specs.Mesh.{passed_mesh, mesh_of};
 ghost use Rattle.replay_move.specs.Move as Spec;
 
 use replay_columns::after::left_as_due;
@@ -30,7 +31,7 @@ fn move_into(
 ) -> bool
     requires z0_bound { k + 2 + length cells0.now + length x0.now + length y0.now + length z0.now ≤ 2048 }
     requires x_value { (x.old ≡ x0.now) × (y.old ≡ y0.now) × (z.old ≡ z0.now) × (cells.old ≡ cells0.now) }
-    ensures { result ≡ Spec.move_into rule (passed_mesh x y z t0 t1 t2) (passed cells) node place (passed w) k }
+    ensures { result ≡ Spec.move_into rule (mesh_of x.old y.old z.old t0.now t1.now t2.now) cells.old node place w.now k }
 {
     let moved = node_move::move_node(
         rule, x, y, z, t0, t1, t2, cells, node, place[0], place[1], place[2],
@@ -53,7 +54,7 @@ fn move_of(
     g: usize,
 ) -> bool
     requires { (g ≤ 298) × (length x.now ≤ 48) × (length y.now ≤ 48) × (length z.now ≤ 48) }
-    ensures { result ≡ Spec.move_of rule (passed_mesh x y z t0 t1 t2) (passed f) (passed w) g }
+    ensures { result ≡ Spec.move_of rule (passed_mesh x y z t0 t1 t2) f.now w.now g }
 {
     let n = cut_at(w, g, 576);
     let all = &f[..];
@@ -86,7 +87,7 @@ fn move_of(
 
 // The move of a case.
 fn move_case(f: &[f64; 2048], u: &[usize; 2048], w: &[u64; 2048]) -> bool
-    ensures { result ≡ Spec.move_case (passed f) (passed u) (passed w) }
+    ensures { result ≡ Spec.move_case f.now u.now w.now }
 {
     let rule = rule_of(w[0]);
     let x = nodes(f, w, 1, 0);
@@ -101,7 +102,7 @@ fn move_case(f: &[f64; 2048], u: &[usize; 2048], w: &[u64; 2048]) -> bool
 
 // By the kind's number.
 pub fn agree(kind: u64, f: &[f64; 2048], u: &[usize; 2048], w: &[u64; 2048]) -> bool
-    ensures { result ≡ Spec.moves_agree kind (passed f) (passed u) (passed w) }
+    ensures { result ≡ Spec.moves_agree kind f.now u.now w.now }
 {
     if kind == 30 {
         return move_case(f, u, w);

@@ -1,8 +1,9 @@
 // The return to a named shape: behind the rule and the mesh stand the matrix, the store and the name. The call is lent copies of
 // what it changes. The case's bytes stand in b, eight to a word.
+#![tactic(auto)]
+
 ghost use Rattle.std.specs.Prelude.{◌≡◌, ◌+◌, ◌≤◌, length};
-ghost use Rattle.lists.specs.Lent.{passed};
-ghost use Rattle.mesh.specs.Mesh.{passed_mesh};
+ghost use Rattle.mesh.specs.Mesh.{passed_mesh, mesh_of};
 ghost use Rattle.replay_return.specs.Return as Spec;
 
 use replay_columns::after::left_as_due;
@@ -32,7 +33,7 @@ fn return_into(
 ) -> bool
     requires q_bound { (q ≤ 875) × (q + 408 + length cells0.now + length x0.now + length y0.now + length z0.now ≤ 2048) }
     requires x_value { (x.old ≡ x0.now) × (y.old ≡ y0.now) × (z.old ≡ z0.now) × (cells.old ≡ cells0.now) }
-    ensures { result ≡ Spec.return_into rule (passed_mesh x y z t0 t1 t2) (passed cells) (passed b) (passed f) (passed w) q }
+    ensures { result ≡ Spec.return_into rule (mesh_of x.old y.old z.old t0.now t1.now t2.now) cells.old b.now f.now w.now q }
 {
     let marks = bytes_part(b, w, q, 0);
     let names = bytes_part(b, w, q, 1);
@@ -64,7 +65,7 @@ fn return_of(
     g: usize,
 ) -> bool
     requires { (g ≤ 298) × (length x.now ≤ 48) × (length y.now ≤ 48) × (length z.now ≤ 48) }
-    ensures { result ≡ Spec.return_of rule (passed_mesh x y z t0 t1 t2) (passed b) (passed f) (passed w) g }
+    ensures { result ≡ Spec.return_of rule (passed_mesh x y z t0 t1 t2) b.now f.now w.now g }
 {
     let q = g + 1 + cut_at(w, g, 576);
     let all = &f[..];
@@ -95,7 +96,7 @@ fn return_of(
 
 // The return of a case.
 fn return_case(b: &[u8; 16384], f: &[f64; 2048], u: &[usize; 2048], w: &[u64; 2048]) -> bool
-    ensures { result ≡ Spec.return_case (passed b) (passed f) (passed u) (passed w) }
+    ensures { result ≡ Spec.return_case b.now f.now u.now w.now }
 {
     let rule = rule_of(w[0]);
     let x = nodes(f, w, 1, 0);
@@ -116,7 +117,7 @@ pub fn agree(
     u: &[usize; 2048],
     w: &[u64; 2048],
 ) -> bool
-    ensures { result ≡ Spec.returns_agree kind (passed b) (passed f) (passed u) (passed w) }
+    ensures { result ≡ Spec.returns_agree kind b.now f.now u.now w.now }
 {
     if kind == 61 {
         return return_case(b, f, u, w);

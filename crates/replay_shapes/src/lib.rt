@@ -1,9 +1,10 @@
 // Saving a shape and dropping one: behind the mesh stand the store and the name. The call is lent copies of what it may change.
 // The case's bytes stand in b, eight to a word.
+#![tactic(auto)]
+
 ghost use Rattle.std.specs.Prelude.{◌≡◌, ◌+◌, ◌≤◌};
-ghost use Rattle.lists.specs.Lent.{passed};
 ghost use Rattle.mesh.specs.Mesh.{passed_mesh};
-ghost use Rattle.shape_store.specs.Store.{lent_store, passed_store};
+ghost use Rattle.shape_store.specs.Store.{lent_store, passed_store, store_of};
 ghost use Rattle.replay_columns.specs.Store.{part_at};
 ghost use Rattle.replay_shapes.specs.Shapes as Spec;
 
@@ -33,7 +34,7 @@ fn saved_as_due(
 ) -> bool
     requires k_bound { (k ≤ 704) × Spec.ColumnsShort (lent_store marks0 names0 sx0 sy0 sz0) }
     requires as_long { Spec.AsLong (lent_store marks names sx sy sz) (lent_store marks0 names0 sx0 sy0 sz0) }
-    ensures { result ≡ Spec.saved_as_due refusal (passed_store marks names sx sy sz) (passed_store marks0 names0 sx0 sy0 sz0) (passed b) (passed w) k }
+    ensures { result ≡ Spec.saved_as_due refusal (passed_store marks names sx sy sz) (passed_store marks0 names0 sx0 sy0 sz0) b.now w.now k }
 {
     let due_marks = bytes_part(b, w, k + 1, 0);
     let due_names = bytes_part(b, w, k + 1, 1);
@@ -68,8 +69,8 @@ fn save_into(
     e: usize,
 ) -> bool
     requires e_bound { (e ≤ 703) × Spec.ColumnsShort (lent_store marks0 names0 sx0 sy0 sz0) }
-    requires sz_value { lent_store marks names sx sy sz ≡ lent_store marks0 names0 sx0 sy0 sz0 }
-    ensures { result ≡ Spec.save_into (passed_mesh x y z t0 t1 t2) (passed_store marks names sx sy sz) (passed b) (passed w) e }
+    requires sz_value { store_of marks.old names.old sx.old sy.old sz.old ≡ lent_store marks0 names0 sx0 sy0 sz0 }
+    ensures { result ≡ Spec.save_into (passed_mesh x y z t0 t1 t2) (store_of marks.old names.old sx.old sy.old sz.old) b.now w.now e }
 {
     let name = name_at(b, e);
     let refusal = shape_store::save_shape(x, y, z, t0, t1, t2, marks, names, sx, sy, sz, &name);
@@ -105,8 +106,8 @@ fn save_of(
     q: usize,
 ) -> bool
     requires { q ≤ 298 }
-    ensures { result ≡ Spec.save_into (passed_mesh x y z t0 t1 t2) (Spec.store_at (passed b) (passed f) (passed w) q) (passed b) (passed w)
-        (part_at (passed w) q 5) }
+    ensures { result ≡ Spec.save_into (passed_mesh x y z t0 t1 t2) (Spec.store_at b.now f.now w.now q) b.now w.now
+        (part_at w.now q 5) }
 {
     let marks = bytes_part(b, w, q, 0);
     let names = bytes_part(b, w, q, 1);
@@ -144,7 +145,7 @@ fn save_of(
 
 // The save of a case.
 fn save_case(b: &[u8; 16384], f: &[f64; 2048], u: &[usize; 2048], w: &[u64; 2048]) -> bool
-    ensures { result ≡ Spec.save_case (passed b) (passed f) (passed u) (passed w) }
+    ensures { result ≡ Spec.save_case b.now f.now u.now w.now }
 {
     let x = nodes(f, w, 0, 0);
     let y = nodes(f, w, 0, 1);
@@ -166,7 +167,7 @@ fn dropped_as_due(
     k: usize,
 ) -> bool
     requires { k ≤ 704 }
-    ensures { result ≡ Spec.dropped_as_due refusal (passed marks) (passed marks0) (passed b) (passed w) k }
+    ensures { result ≡ Spec.dropped_as_due refusal marks.now marks0.now b.now w.now k }
 {
     let due = bytes_part(b, w, k + 1, 0);
     let number = same_word(refusal as u64, w, k);
@@ -193,7 +194,7 @@ fn drop_into(
     e: usize,
 ) -> bool
     requires { (e ≤ 703) × (marks.old ≡ marks0.now) }
-    ensures { result ≡ Spec.drop_into (passed_mesh x y z t0 t1 t2) (passed_store marks names sx sy sz) (passed b) (passed w) e }
+    ensures { result ≡ Spec.drop_into (passed_mesh x y z t0 t1 t2) (store_of marks.old names.now sx.now sy.now sz.now) b.now w.now e }
 {
     let name = name_at(b, e);
     let refusal = shape_store::drop_shape(x, y, z, t0, t1, t2, marks, names, sx, sy, sz, &name);
@@ -214,8 +215,8 @@ fn drop_of(
     q: usize,
 ) -> bool
     requires { q ≤ 298 }
-    ensures { result ≡ Spec.drop_into (passed_mesh x y z t0 t1 t2) (Spec.store_at (passed b) (passed f) (passed w) q) (passed b) (passed w)
-        (part_at (passed w) q 5) }
+    ensures { result ≡ Spec.drop_into (passed_mesh x y z t0 t1 t2) (Spec.store_at b.now f.now w.now q) b.now w.now
+        (part_at w.now q 5) }
 {
     let marks = bytes_part(b, w, q, 0);
     let names = bytes_part(b, w, q, 1);
@@ -245,7 +246,7 @@ fn drop_of(
 
 // The drop of a case.
 fn drop_case(b: &[u8; 16384], f: &[f64; 2048], u: &[usize; 2048], w: &[u64; 2048]) -> bool
-    ensures { result ≡ Spec.drop_case (passed b) (passed f) (passed u) (passed w) }
+    ensures { result ≡ Spec.drop_case b.now f.now u.now w.now }
 {
     let x = nodes(f, w, 0, 0);
     let y = nodes(f, w, 0, 1);
@@ -265,7 +266,7 @@ pub fn agree(
     u: &[usize; 2048],
     w: &[u64; 2048],
 ) -> bool
-    ensures { result ≡ Spec.shapes_agree kind (passed b) (passed f) (passed u) (passed w) }
+    ensures { result ≡ Spec.shapes_agree kind b.now f.now u.now w.now }
 {
     if kind == 59 {
         return save_case(b, f, u, w);

@@ -1,6 +1,5 @@
 // Bytes of a stored case: their length in word 0, then eight to a word.
 ghost use Rattle.std.specs.Prelude.{◌≡◌, ◌≤◌};
-ghost use Rattle.lists.specs.Lent.{passed};
 ghost use Rattle.replay_words.specs.Bytes as Spec;
 
 // The place behind n bytes that begin at place 1.
@@ -12,7 +11,7 @@ pub fn bytes_end(n: usize) -> usize
 }
 
 pub fn same_bytes(a: &[u8], b: &[u8]) -> bool
-    ensures { result ≡ Spec.same_bytes (passed a) (passed b) }
+    ensures { result ≡ Spec.same_bytes a.now b.now }
 {
     if a.len() != b.len() {
         return false;
@@ -28,7 +27,7 @@ pub fn same_bytes(a: &[u8], b: &[u8]) -> bool
 
 // Bytes that a call may change: the stored results, or on a refusal what they were before.
 pub fn kept_bytes(refusal: u32, a: &[u8], before: &[u8], stored: &[u8]) -> bool
-    ensures { result ≡ Spec.kept_bytes refusal (passed a) (passed before) (passed stored) }
+    ensures { result ≡ Spec.kept_bytes refusal a.now before.now stored.now }
 {
     if refusal == 0 {
         return same_bytes(a, stored);

@@ -1,6 +1,7 @@
 // The writer of the panel file: behind the mesh stands the length of the output. The case's bytes stand in b, eight to a word.
+#![tactic(auto)]
+
 ghost use Rattle.std.specs.Prelude.{◌≡◌, ◌≤◌, ◌<◌, length};
-ghost use Rattle.lists.specs.Lent.{passed};
 ghost use Rattle.mesh.specs.Mesh.{passed_mesh};
 ghost use Rattle.replay_writer.specs.Writer as Spec;
 
@@ -11,7 +12,7 @@ use replay_words::words::{cut_at, same_word, size_at};
 // The output, compared whole: with the stored bytes, or on a refusal with the pattern that it was lent with.
 fn held_bytes(refusal: u32, out: &[u8], stored: &[u8]) -> bool
     requires { length out.now ≤ 512 }
-    ensures { result ≡ Spec.held_bytes refusal (passed out) (passed stored) }
+    ensures { result ≡ Spec.held_bytes refusal out.now stored.now }
 {
     if refusal == 0 {
         return same_bytes(out, stored);
@@ -35,7 +36,7 @@ fn write_into(
     k: usize,
 ) -> bool
     requires { (length out.old ≤ 512) × (k < 2048) }
-    ensures { result ≡ Spec.write_into (passed_mesh x y z t0 t1 t2) (passed out) (passed stored) (passed w) k }
+    ensures { result ≡ Spec.write_into (passed_mesh x y z t0 t1 t2) out.old stored.now w.now k }
 {
     let refusal = panel_file_write::write_panel_file(x, y, z, t0, t1, t2, out);
     let a = same_word(refusal as u64, w, k);
@@ -56,7 +57,7 @@ fn write_file_of(
     g: usize,
 ) -> bool
     requires { g ≤ 298 }
-    ensures { result ≡ Spec.write_file_of (passed_mesh x y z t0 t1 t2) (passed b) (passed w) g }
+    ensures { result ≡ Spec.write_file_of (passed_mesh x y z t0 t1 t2) b.now w.now g }
 {
     let n = cut_at(w, g, 512);
     let m = size_at(w, g + 2);
@@ -69,7 +70,7 @@ fn write_file_of(
 
 // The mesh is the first input.
 fn write_file(b: &[u8; 16384], f: &[f64; 2048], u: &[usize; 2048], w: &[u64; 2048]) -> bool
-    ensures { result ≡ Spec.write_file (passed b) (passed f) (passed u) (passed w) }
+    ensures { result ≡ Spec.write_file b.now f.now u.now w.now }
 {
     let x = nodes(f, w, 0, 0);
     let y = nodes(f, w, 0, 1);
@@ -89,7 +90,7 @@ pub fn agree(
     u: &[usize; 2048],
     w: &[u64; 2048],
 ) -> bool
-    ensures { result ≡ Spec.writer_agrees kind (passed b) (passed f) (passed u) (passed w) }
+    ensures { result ≡ Spec.writer_agrees kind b.now f.now u.now w.now }
 {
     if kind == 58 {
         return write_file(b, f, u, w);

@@ -2,8 +2,9 @@
 // `scatter_triangle_block_transpose` of inductance.rs. Only cells with a marked row or column change:
 // with every node marked the whole matrix is assembled, with a ring marked the cells that a move names.
 // Additions are made on and above the diagonal; a cell below it is then a copy of the one above.
+#![tactic(auto)]
+
 ghost use Rattle.std.specs.Prelude.{◌≡◌, cond, [], ◌∷◌, ◌<◌, ◌≤◌, ◌*◌, ◌-◌, length};
-ghost use Rattle.lists.specs.Lent.{passed, left};
 ghost use Rattle.binary64.specs.Binary64.{plus_zero};
 ghost use Rattle.mesh.specs.Mesh.{max_nodes, mesh_of};
 ghost use Rattle.mesh.specs.Conditions.{PanelColumnsAlike};
@@ -18,7 +19,7 @@ ghost use Rattle.scatter.specs.Flags.{IndicesBelow, Flagged};
 // One addition.
 fn add_at(out: &mut [f64], n: usize, row: usize, col: usize, v: f64)
     requires { (n ≤ max_nodes) × (length out.old ≡ n * n) × (row < n) × (col < n) }
-    ensures { left out ≡ add_at n (passed out) (entry row col v) }
+    ensures { out.new ≡ add_at n out.old (entry row col v) }
 {
     let k = row * n + col;
     out[k] = out[k] + v;
@@ -28,7 +29,7 @@ fn add_at(out: &mut [f64], n: usize, row: usize, col: usize, v: f64)
 fn add_named(out: &mut [f64], n: usize, marks: &[bool], row: usize, col: usize, v: f64)
     requires sized { Sized n out.old marks.now }
     requires row_lt_n { (row < n) × (col < n) }
-    ensures { left out ≡ renewing (marked (passed marks)) n (passed out) (entry row col v ∷ []) }
+    ensures { out.new ≡ renewing (marked marks.now) n out.old (entry row col v ∷ []) }
 {
     if (marks[row] | marks[col]) & (row <= col) {
         add_at(out, n, row, col, v);
@@ -47,7 +48,7 @@ fn add_oriented(
 )
     requires sized { Sized n out.old marks.now }
     requires row_lt_n { (row < n) × (col < n) }
-    ensures { left out ≡ renewing (marked (passed marks)) n (passed out) (oriented transposed (entry row col v ∷ [])) }
+    ensures { out.new ≡ renewing (marked marks.now) n out.old (oriented transposed (entry row col v ∷ [])) }
 {
     if transposed {
         add_named(out, n, marks, col, row, v);
@@ -68,7 +69,7 @@ fn add_row(
 )
     requires sized { Sized n out.old marks.now }
     requires row_lt_n { (row < n) × AllBelow n (triple t) }
-    ensures { left out ≡ renewing (marked (passed marks)) n (passed out) (oriented transposed (row_entries row (triple t) v 0)) }
+    ensures { out.new ≡ renewing (marked marks.now) n out.old (oriented transposed (row_entries row (triple t) v 0)) }
 {
     add_oriented(out, n, marks, row, t[0], v[0], transposed);
     add_oriented(out, n, marks, row, t[1], v[1], transposed);
@@ -87,7 +88,7 @@ pub fn scatter_triangle_block(
 )
     requires sized { Sized n out.old marks.now }
     requires all_below { AllBelow n (triple s) × AllBelow n (triple t) }
-    ensures { left out ≡ renewing (marked (passed marks)) n (passed out) (oriented transposed (block_entries (triple s) (triple t) b 0)) }
+    ensures { out.new ≡ renewing (marked marks.now) n out.old (oriented transposed (block_entries (triple s) (triple t) b 0)) }
 {
     add_row(out, n, marks, s[0], t, [b[0], b[1], b[2]], transposed);
     add_row(out, n, marks, s[1], t, [b[3], b[4], b[5]], transposed);
@@ -106,7 +107,7 @@ pub fn scatter_pair(
 )
     requires sized { Sized n out.old marks.now }
     requires all_below { AllBelow n (triple s) × AllBelow n (triple t) }
-    ensures { left out ≡ renewing (marked (passed marks)) n (passed out) (with_transposed same (block_entries (triple s) (triple t) b 0)) }
+    ensures { out.new ≡ renewing (marked marks.now) n out.old (with_transposed same (block_entries (triple s) (triple t) b 0)) }
 {
     scatter_triangle_block(out, n, marks, s, t, b, false);
     if !same {
@@ -117,7 +118,7 @@ pub fn scatter_pair(
 // One of the nodes of a panel is marked.
 pub fn touches(marks: &[bool], s: [usize; 3]) -> bool
     requires { AllBelow (length marks.now) (triple s) }
-    ensures { result ≡ any_of (marked (passed marks)) (triple s) }
+    ensures { result ≡ any_of (marked marks.now) (triple s) }
 {
     marks[s[0]] | (marks[s[1]] | marks[s[2]])
 }
@@ -135,7 +136,7 @@ fn link(mark: bool, k: usize, above: usize) -> usize
 // For each place below n the first marked one from it up, n if there is none.
 pub fn link_marked(marks: &[bool], n: usize, links: &mut [usize])
     requires { (n ≤ length marks.now) × (n ≤ length links.old) }
-    ensures { LinksNext 0 (marked (passed marks)) n (left links) }
+    ensures { LinksNext 0 (marked marks.now) n links.new }
 {
     let mut first = n;
     let mut k = n;
@@ -150,7 +151,7 @@ pub fn link_marked(marks: &[bool], n: usize, links: &mut [usize])
 pub fn next_named(marks: &[bool], links: &[usize], n: usize, row: usize, col: usize) -> usize
     requires n_in_bounds { (n ≤ length marks.now) × (n ≤ length links.now) }
     requires row_lt_n { (col < n → row < n) × LinksNext 0 (marked marks.now) n links.now }
-    ensures { result ≡ next_from (named (marked (passed marks)) row) col (n - col) }
+    ensures { result ≡ next_from (named (marked marks.now) row) col (n - col) }
 {
     if n <= col {
         return col;
@@ -165,7 +166,7 @@ pub fn next_named(marks: &[bool], links: &[usize], n: usize, row: usize, col: us
 fn clear_row(out: &mut [f64], n: usize, marks: &[bool], links: &[usize], row: usize)
     requires sized { Sized n out.old marks.now }
     requires row_lt_n { (row < n) × (n ≤ length links.now) × LinksNext 0 (marked marks.now) n links.now }
-    ensures { left out ≡ run (passed out) (row * n) n (renewed_cell (marked (passed marks)) (λ a b. plus_zero) n (passed out) row) n }
+    ensures { out.new ≡ run out.old (row * n) n (renewed_cell (marked marks.now) (λ a b. plus_zero) n out.old row) n }
 {
     let base = row * n;
     let mut col = next_named(marks, links, n, row, 0);
@@ -178,7 +179,7 @@ fn clear_row(out: &mut [f64], n: usize, marks: &[bool], links: &[usize], row: us
 // Named cells become +0.
 pub fn clear_named(out: &mut [f64], n: usize, marks: &[bool])
     requires { Sized n out.old marks.now }
-    ensures { left out ≡ renewed (marked (passed marks)) (λ a b. plus_zero) n (passed out) }
+    ensures { out.new ≡ renewed (marked marks.now) (λ a b. plus_zero) n out.old }
 {
     let mut links: [usize; mesh::MAX_NODES] = [0; mesh::MAX_NODES];
     link_marked(marks, n, &mut links);
@@ -193,7 +194,7 @@ pub fn clear_named(out: &mut [f64], n: usize, marks: &[bool])
 fn copy_row_below(out: &mut [f64], n: usize, marks: &[bool], links: &[usize], b: usize)
     requires sized { Sized n out.old marks.now }
     requires b_lt_n { (b < n) × (n ≤ length links.now) × LinksNext 0 (marked marks.now) n links.now }
-    ensures { left out ≡ run (passed out) (b * n) n (renewed_cell (marked (passed marks)) (mirrored (cells_of n (passed out))) n (passed out) b) n }
+    ensures { out.new ≡ run out.old (b * n) n (renewed_cell (marked marks.now) (mirrored (cells_of n out.old)) n out.old b) n }
 {
     let mut a = next_named(marks, links, n, b, 0);
     while a < b {
@@ -205,7 +206,7 @@ fn copy_row_below(out: &mut [f64], n: usize, marks: &[bool], links: &[usize], b:
 // Named cells below the diagonal become copies of those above.
 pub fn copy_below(out: &mut [f64], n: usize, marks: &[bool])
     requires { Sized n out.old marks.now }
-    ensures { left out ≡ copied_below (marked (passed marks)) n (passed out) }
+    ensures { out.new ≡ copied_below (marked marks.now) n out.old }
 {
     let mut links: [usize; mesh::MAX_NODES] = [0; mesh::MAX_NODES];
     link_marked(marks, n, &mut links);
@@ -221,7 +222,7 @@ pub fn flag_panels(t0: &[usize], t1: &[usize], t2: &[usize], marks: &[bool], fla
     requires panel_columns_alike { PanelColumnsAlike (mesh_of [] [] [] t0.now t1.now t2.now) }
     requires indices_below { IndicesBelow (length marks.now) (mesh_of [] [] [] t0.now t1.now t2.now) }
     requires t0_in_bounds { length t0.now ≤ length flags.old }
-    ensures { Flagged (length (passed t0)) (mesh_of [] [] [] (passed t0) (passed t1) (passed t2)) (passed marks) (left flags) }
+    ensures { Flagged (length t0.now) (mesh_of [] [] [] t0.now t1.now t2.now) marks.now flags.new }
 {
     let mut i = 0;
     while i < t0.len() {

@@ -1,7 +1,6 @@
 // The inductance matrix of a mesh, its energies, and the work with a given map.
 ghost use Rattle.std.proofs.Math.ListN as List;
-ghost use Rattle.lists.specs.Lent.{passed, left};
-ghost use Rattle.mesh.specs.Mesh.{passed_mesh, left_mesh};
+ghost use Rattle.mesh.specs.Mesh.{passed_mesh, left_mesh, mesh_of};
 ghost use Rattle.inductance.specs.Assembly.{Assembled};
 ghost use Rattle.linkage.specs.Energy as Energy;
 ghost use Rattle.linkage.specs.Flux as Flux;
@@ -24,7 +23,7 @@ pub extern "C" fn screens_mesh_inductance_matrix(
     t2: &[usize],
     out: &mut [f64],
 ) -> u32
-    ensures { Assembled rule (passed_mesh x y z t0 t1 t2) (passed out) result (left out) }
+    ensures { Assembled rule (passed_mesh x y z t0 t1 t2) out.old result out.new }
 {
     inductance::triangle_mesh_inductance_matrix(rule, x, y, z, t0, t1, t2, out)
 }
@@ -37,7 +36,7 @@ pub extern "C" fn screens_mesh_inductance_from_potentials(
     t: &[f64],
     value: &mut f64,
 ) -> u32
-    ensures { Energy.VectorsAnswered (passed matrix) (passed s) (passed t) result (left value) }
+    ensures { Energy.VectorsAnswered matrix.now s.now t.now result value.new }
 {
     let answer = linkage::energy::triangle_mesh_inductance_from_potential_vectors(matrix, s, t);
     *value = answer.value;
@@ -47,7 +46,7 @@ pub extern "C" fn screens_mesh_inductance_from_potentials(
 // Half of the matrix between s and itself.
 #[unsafe(no_mangle)]
 pub extern "C" fn screens_mesh_inductive_energy(matrix: &[f64], s: &[f64], value: &mut f64) -> u32
-    ensures { Energy.EnergyAnswered (passed matrix) (passed s) result (left value) }
+    ensures { Energy.EnergyAnswered matrix.now s.now result value.new }
 {
     let answer = linkage::energy::triangle_mesh_inductive_energy(matrix, s);
     *value = answer.value;
@@ -61,7 +60,7 @@ pub extern "C" fn screens_mesh_flux_linkage(
     coefficients: &[f64],
     out: &mut [f64],
 ) -> u32
-    ensures { Linked (passed map) (passed coefficients) (passed out) result (left out) }
+    ensures { Linked map.now coefficients.now out.old result out.new }
 {
     linkage::flux::triangle_mesh_flux_linkage_from_source_coefficients(map, coefficients, out)
 }
@@ -74,7 +73,7 @@ pub extern "C" fn screens_mesh_interaction_energy(
     coefficients: &[f64],
     value: &mut f64,
 ) -> u32
-    ensures { Flux.InteractionAnswered (passed map) (passed values) (passed coefficients) result (left value) }
+    ensures { Flux.InteractionAnswered map.now values.now coefficients.now result value.new }
 {
     let answer = linkage::flux::triangle_mesh_interaction_energy_from_source_coefficients(
         map,
@@ -94,7 +93,7 @@ pub extern "C" fn screens_matrix_row(
     offset: &mut usize,
     count: &mut usize,
 ) -> u32
-    ensures { RowAt (Row.matrix_row_refusal (List.length (passed matrix)) n node) n node result (left offset) (left count) }
+    ensures { RowAt (Row.matrix_row_refusal (List.length matrix.now) n node) n node result offset.new count.new }
 {
     let refusal = linkage::row::triangle_mesh_matrix_row_refusal(matrix, n, node);
     if refusal != 0 {
@@ -116,7 +115,7 @@ pub extern "C" fn screens_map_row(
     offset: &mut usize,
     count: &mut usize,
 ) -> u32
-    ensures { RowAt (Row.map_row_refusal (List.length (passed map)) sources node) sources node result (left offset) (left count) }
+    ensures { RowAt (Row.map_row_refusal (List.length map.now) sources node) sources node result offset.new count.new }
 {
     let refusal = linkage::row::triangle_mesh_map_row_refusal(map, sources, node);
     if refusal != 0 {
@@ -147,7 +146,7 @@ pub extern "C" fn screens_move_node(
     pz: f64,
     count: &mut usize,
 ) -> u32
-    ensures { MovedBy rule (passed_mesh x y z t0 t1 t2) (passed matrix) node px py pz result (left count) (left_mesh x y z t0 t1 t2) (left matrix) }
+    ensures { MovedBy rule (mesh_of x.old y.old z.old t0.now t1.now t2.now) matrix.old node px py pz result count.new (left_mesh x y z t0 t1 t2) matrix.new }
 {
     let moved = node_move::move_node(rule, x, y, z, t0, t1, t2, matrix, node, px, py, pz);
     *count = moved.count;
@@ -173,7 +172,7 @@ pub extern "C" fn screens_return_shape(
     name: &[u8; 8],
     count: &mut usize,
 ) -> u32
-    ensures { ReturnedBy rule (lent_screen x y z t0 t1 t2 out) (passed_store marks names sx sy sz) (passed name) result (left count) }
+    ensures { ReturnedBy rule (lent_screen x y z t0 t1 t2 out) (passed_store marks names sx sy sz) name.now result count.new }
 {
     let returned = shape_return::return_shape(
         rule, x, y, z, t0, t1, t2, out, marks, names, sx, sy, sz, name,

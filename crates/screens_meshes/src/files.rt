@@ -1,6 +1,5 @@
 // The panel file's reader and writer, and the display value.
-ghost use Rattle.lists.specs.Lent.{passed, left};
-ghost use Rattle.mesh.specs.Mesh.{max_nodes, max_panels, passed_mesh, written_mesh};
+ghost use Rattle.mesh.specs.Mesh.{max_nodes, max_panels, passed_mesh, written_mesh, mesh_of};
 ghost use Rattle.panel_file.specs.PanelFile.{Read};
 ghost use Rattle.panel_file_write.specs.Write.{Written};
 ghost use Rattle.display.specs.Display.{Displayed};
@@ -8,7 +7,7 @@ ghost use Rattle.display.specs.Display.{Displayed};
 // Whole nanohenries; they go to the lent number, 0 on a refusal.
 #[unsafe(no_mangle)]
 pub extern "C" fn screens_display(x: f64, value: &mut i64) -> u32
-    ensures { Displayed x result (left value) }
+    ensures { Displayed x result value.new }
 {
     let shown = display::display(x);
     let nanohenries = shown.value;
@@ -27,7 +26,7 @@ pub extern "C" fn screens_read_panel_file(
     t1: &mut [usize],
     t2: &mut [usize],
 ) -> u32
-    ensures { Read max_nodes max_panels (passed file) (passed_mesh x y z t0 t1 t2) result (written_mesh x y z t0 t1 t2) }
+    ensures { Read max_nodes max_panels file.now (mesh_of x.old y.old z.old t0.old t1.old t2.old) result (written_mesh x y z t0 t1 t2) }
 {
     panel_file::read_panel_file(file, x, y, z, t0, t1, t2)
 }
@@ -43,7 +42,7 @@ pub extern "C" fn screens_write_panel_file(
     t2: &[usize],
     file: &mut [u8],
 ) -> u32
-    ensures { Written max_nodes max_panels (passed_mesh x y z t0 t1 t2) (passed file) result (left file) }
+    ensures { Written max_nodes max_panels (passed_mesh x y z t0 t1 t2) file.old result file.new }
 {
     panel_file_write::write_panel_file(x, y, z, t0, t1, t2, file)
 }

@@ -1,5 +1,4 @@
 // Meshes of six columns: the coordinates x, y, z of the nodes, and for each panel the nodes t0, t1, t2 of its corners.
-ghost use Rattle.lists.specs.Lent.{passed, left};
 ghost use Rattle.mesh.specs.Mesh.{passed_mesh};
 ghost use Rattle.mesh.specs.Conditions.{Tested};
 ghost use Rattle.boundary_element.specs.CurrentDensity.{Densities};
@@ -18,7 +17,7 @@ pub extern "C" fn screens_mesh_test(
     t2: &[usize],
     poor: &mut usize,
 ) -> u32
-    ensures { Tested (passed_mesh x y z t0 t1 t2) result (left poor) }
+    ensures { Tested (passed_mesh x y z t0 t1 t2) result poor.new }
 {
     let tested = mesh::validate_triangle_mesh_geometry(x, y, z, t0, t1, t2);
     *poor = tested.poor;
@@ -39,7 +38,7 @@ pub extern "C" fn screens_mesh_current_density(
     jy: &mut [f64],
     jz: &mut [f64],
 ) -> u32
-    ensures { Densities (passed_mesh x y z t0 t1 t2) (passed s) (passed jx) (passed jy) (passed jz) result (left jx) (left jy) (left jz) }
+    ensures { Densities (passed_mesh x y z t0 t1 t2) s.now jx.old jy.old jz.old result jx.new jy.new jz.new }
 {
     current_density::triangle_mesh_current_density(x, y, z, t0, t1, t2, s, jx, jy, jz)
 }
@@ -59,7 +58,7 @@ pub extern "C" fn screens_mesh_quadrature_points(
     pz: &mut [f64],
     pw: &mut [f64],
 ) -> u32
-    ensures { PointsBy rule (passed_mesh x y z t0 t1 t2) (passed px) (passed py) (passed pz) (passed pw) result (left px) (left py) (left pz) (left pw) }
+    ensures { PointsBy rule (passed_mesh x y z t0 t1 t2) px.old py.old pz.old pw.old result px.new py.new pz.new pw.new }
 {
     quadrature_points::triangle_mesh_quadrature_points(rule, x, y, z, t0, t1, t2, px, py, pz, pw)
 }

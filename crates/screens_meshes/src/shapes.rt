@@ -1,7 +1,6 @@
 // CR 5's store for eight shapes of one mesh: marks, names and coordinates, place after place. A name has eight bytes.
-ghost use Rattle.lists.specs.Lent.{passed};
 ghost use Rattle.mesh.specs.Mesh.{passed_mesh};
-ghost use Rattle.shape_store.specs.Store.{passed_store, left_store, left_marks, Saved, Dropped};
+ghost use Rattle.shape_store.specs.Store.{left_store, left_marks, Saved, Dropped, store_of};
 
 // Saves the mesh's shape under a name: over the shape of that name, or at the first free place.
 #[unsafe(no_mangle)]
@@ -19,7 +18,7 @@ pub extern "C" fn screens_save_shape(
     sz: &mut [f64],
     name: &[u8; 8],
 ) -> u32
-    ensures { Saved (passed_mesh x y z t0 t1 t2) (passed_store marks names sx sy sz) (passed name) result (left_store marks names sx sy sz) }
+    ensures { Saved (passed_mesh x y z t0 t1 t2) (store_of marks.old names.old sx.old sy.old sz.old) name.now result (left_store marks names sx sy sz) }
 {
     shape_store::save_shape(x, y, z, t0, t1, t2, marks, names, sx, sy, sz, name)
 }
@@ -40,7 +39,7 @@ pub extern "C" fn screens_drop_shape(
     sz: &[f64],
     name: &[u8; 8],
 ) -> u32
-    ensures { Dropped (passed_mesh x y z t0 t1 t2) (passed_store marks names sx sy sz) (passed name) result (left_marks marks names sx sy sz) }
+    ensures { Dropped (passed_mesh x y z t0 t1 t2) (store_of marks.old names.now sx.now sy.now sz.now) name.now result (left_marks marks names sx sy sz) }
 {
     shape_store::drop_shape(x, y, z, t0, t1, t2, marks, names, sx, sy, sz, name)
 }

@@ -1,6 +1,5 @@
 // Two panels, source and target, each by the nine coordinates of its corners.
 ghost use Rattle.std.specs.Prelude.{◌≡◌};
-ghost use Rattle.lists.specs.Lent.{passed, left};
 ghost use Rattle.panel_distance.specs.Bisection as Bisection;
 ghost use Rattle.coupling.specs.Block as Block;
 ghost use Rattle.coupling.specs.Calls as Calls;
@@ -51,7 +50,7 @@ pub extern "C" fn screens_coupling(
     target: &[f64; 9],
     value: &mut f64,
 ) -> u32
-    ensures { Valued (Calls.triangle_geometric_coupling rule (triangle source) (triangle target)) result (left value) }
+    ensures { Valued (Calls.triangle_geometric_coupling rule (triangle source) (triangle target)) result value.new }
 {
     let answer = coupling::calls::triangle_geometric_coupling(
         rule,
@@ -69,7 +68,7 @@ pub extern "C" fn screens_coupling_regular(
     target: &[f64; 9],
     value: &mut f64,
 ) -> u32
-    ensures { Valued (Calls.triangle_geometric_coupling_regular rule (triangle source) (triangle target)) result (left value) }
+    ensures { Valued (Calls.triangle_geometric_coupling_regular rule (triangle source) (triangle target)) result value.new }
 {
     let answer = coupling::calls::triangle_geometric_coupling_regular(
         rule,
@@ -90,7 +89,7 @@ pub extern "C" fn screens_mutual_inductance(
     j: usize,
     value: &mut f64,
 ) -> u32
-    ensures { Valued (Calls.triangle_basis_mutual_inductance rule (triangle source) i (triangle target) j) result (left value) }
+    ensures { Valued (Calls.triangle_basis_mutual_inductance rule (triangle source) i (triangle target) j) result value.new }
 {
     let answer = coupling::calls::triangle_basis_mutual_inductance(
         rule,
@@ -111,7 +110,7 @@ pub extern "C" fn screens_mutual_inductance_block(
     target: &[f64; 9],
     out: &mut [f64; 9],
 ) -> u32
-    ensures { WroteBlock (Calls.triangle_basis_mutual_inductance_block rule (triangle source) (triangle target)) (passed out) result (left out) }
+    ensures { WroteBlock (Calls.triangle_basis_mutual_inductance_block rule (triangle source) (triangle target)) out.old result out.new }
 {
     let answer = coupling::calls::triangle_basis_mutual_inductance_block(
         rule,
@@ -133,7 +132,7 @@ pub extern "C" fn screens_inductance_from_potentials(
     s: &[f64; 3],
     t: &[f64; 3],
 ) -> f64
-    ensures { result ≡ Block.inductance_from_potential_vectors (passed block) (vector s) (vector t) }
+    ensures { result ≡ Block.inductance_from_potential_vectors block.now (vector s) (vector t) }
 {
     coupling::block::triangle_inductance_from_potential_vectors(*block, *s, *t)
 }
@@ -141,7 +140,7 @@ pub extern "C" fn screens_inductance_from_potentials(
 // The halves of a triangle at its longest edge.
 #[unsafe(no_mangle)]
 pub extern "C" fn screens_longest_edge_bisection(t: &[f64; 9], out: &mut [f64; 18])
-    ensures { left out ≡ halves_of (Bisection.longest_edge_bisection (triangle t)) }
+    ensures { out.new ≡ halves_of (Bisection.longest_edge_bisection (triangle t)) }
 {
     *out = eighteen(panel_distance::bisection::longest_edge_bisection(triangle(*t)));
 }

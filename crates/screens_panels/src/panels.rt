@@ -1,6 +1,5 @@
 // One panel, by the nine coordinates of its corners.
 ghost use Rattle.std.specs.Prelude.{◌≡◌};
-ghost use Rattle.lists.specs.Lent.{left};
 ghost use Rattle.tri.specs.Mapping as Mapping;
 ghost use Rattle.tri.specs.Tri3 as Tri3;
 ghost use Rattle.potential.specs.Potential as Potential;
@@ -27,7 +26,7 @@ pub extern "C" fn screens_area(t: &[f64; 9]) -> f64
 // Its unit normal.
 #[unsafe(no_mangle)]
 pub extern "C" fn screens_normal(t: &[f64; 9], out: &mut [f64; 3])
-    ensures { left out ≡ Mapping.normal (triangle t) }
+    ensures { out.new ≡ Mapping.normal (triangle t) }
 {
     *out = tri::mapping::normal(triangle(*t));
 }
@@ -35,7 +34,7 @@ pub extern "C" fn screens_normal(t: &[f64; 9], out: &mut [f64; 3])
 // Its point at (u, v) of the reference triangle.
 #[unsafe(no_mangle)]
 pub extern "C" fn screens_map_point(t: &[f64; 9], u: f64, v: f64, out: &mut [f64; 3])
-    ensures { left out ≡ Mapping.map_point (triangle t) u v }
+    ensures { out.new ≡ Mapping.map_point (triangle t) u v }
 {
     *out = tri::mapping::map_point(triangle(*t), u, v);
 }
@@ -43,7 +42,7 @@ pub extern "C" fn screens_map_point(t: &[f64; 9], u: f64, v: f64, out: &mut [f64
 // Its point closest to another.
 #[unsafe(no_mangle)]
 pub extern "C" fn screens_closest_point(point: &[f64; 3], t: &[f64; 9], out: &mut [f64; 3])
-    ensures { left out ≡ Tri3.closest_point (vector point) (triangle t) }
+    ensures { out.new ≡ Tri3.closest_point (vector point) (triangle t) }
 {
     *out = tri::tri3::closest_point(*point, triangle(*t));
 }
@@ -59,7 +58,7 @@ pub extern "C" fn screens_potential(t: &[f64; 9], point: &[f64; 3]) -> f64
 // The gradient of that potential.
 #[unsafe(no_mangle)]
 pub extern "C" fn screens_gradient(t: &[f64; 9], point: &[f64; 3], out: &mut [f64; 3])
-    ensures { left out ≡ Potential.scalar_potential_gradient (Potential.uniform_triangle (triangle t)) (vector point) }
+    ensures { out.new ≡ Potential.scalar_potential_gradient (Potential.uniform_triangle (triangle t)) (vector point) }
 {
     *out = UniformTriangle::new(triangle(*t)).scalar_potential_gradient(*point);
 }
@@ -83,7 +82,7 @@ pub extern "C" fn screens_quality(t: &[f64; 9]) -> f64
 // The panel's record: corners, normal, edge tangents, outward edges, edge lengths, longest edge.
 #[unsafe(no_mangle)]
 pub extern "C" fn screens_record(t: &[f64; 9], out: &mut [f64; 34])
-    ensures { left out ≡ record_numbers (Potential.uniform_triangle (triangle t)) }
+    ensures { out.new ≡ record_numbers (Potential.uniform_triangle (triangle t)) }
 {
     *out = record_numbers(UniformTriangle::new(triangle(*t)));
 }
@@ -91,7 +90,7 @@ pub extern "C" fn screens_record(t: &[f64; 9], out: &mut [f64; 34])
 // The current densities of a unit value at each corner, corner after corner.
 #[unsafe(no_mangle)]
 pub extern "C" fn screens_basis_current_densities(t: &[f64; 9], out: &mut [f64; 9])
-    ensures { left out ≡ coordinates (Density.triangle_basis_current_densities (triangle t)) }
+    ensures { out.new ≡ coordinates (Density.triangle_basis_current_densities (triangle t)) }
 {
     *out = coordinates(current_density::triangle_basis_current_densities(triangle(*t)));
 }
@@ -99,7 +98,7 @@ pub extern "C" fn screens_basis_current_densities(t: &[f64; 9], out: &mut [f64; 
 // The current density of the values s at the corners.
 #[unsafe(no_mangle)]
 pub extern "C" fn screens_current_density(t: &[f64; 9], s: &[f64; 3], out: &mut [f64; 3])
-    ensures { left out ≡ Density.triangle_current_density (triangle t) (vector s) }
+    ensures { out.new ≡ Density.triangle_current_density (triangle t) (vector s) }
 {
     *out = current_density::triangle_current_density(triangle(*t), *s);
 }

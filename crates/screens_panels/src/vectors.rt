@@ -1,6 +1,5 @@
 // Vectors of three numbers.
 ghost use Rattle.std.specs.Prelude.{◌≡◌};
-ghost use Rattle.lists.specs.Lent.{left};
 ghost use Rattle.math.specs.Math as Math;
 ghost use Rattle.screens_panels.specs.Screens.{vector};
 
@@ -20,42 +19,42 @@ pub extern "C" fn screens_norm3(a: &[f64; 3]) -> f64
 
 #[unsafe(no_mangle)]
 pub extern "C" fn screens_cross3(a: &[f64; 3], b: &[f64; 3], out: &mut [f64; 3])
-    ensures { left out ≡ Math.cross3 (vector a) (vector b) }
+    ensures { out.new ≡ Math.cross3 (vector a) (vector b) }
 {
     *out = math::cross3(*a, *b);
 }
 
 #[unsafe(no_mangle)]
 pub extern "C" fn screens_sub3(a: &[f64; 3], b: &[f64; 3], out: &mut [f64; 3])
-    ensures { left out ≡ Math.sub3 (vector a) (vector b) }
+    ensures { out.new ≡ Math.sub3 (vector a) (vector b) }
 {
     *out = math::sub3(*a, *b);
 }
 
 #[unsafe(no_mangle)]
 pub extern "C" fn screens_add3(a: &[f64; 3], b: &[f64; 3], out: &mut [f64; 3])
-    ensures { left out ≡ Math.add3 (vector a) (vector b) }
+    ensures { out.new ≡ Math.add3 (vector a) (vector b) }
 {
     *out = math::add3(*a, *b);
 }
 
 #[unsafe(no_mangle)]
 pub extern "C" fn screens_scale3(a: &[f64; 3], scale: f64, out: &mut [f64; 3])
-    ensures { left out ≡ Math.scale3 (vector a) scale }
+    ensures { out.new ≡ Math.scale3 (vector a) scale }
 {
     *out = math::scale3(*a, scale);
 }
 
 #[unsafe(no_mangle)]
 pub extern "C" fn screens_add_scaled3(a: &[f64; 3], b: &[f64; 3], scale: f64, out: &mut [f64; 3])
-    ensures { left out ≡ Math.add_scaled3 (vector a) (vector b) scale }
+    ensures { out.new ≡ Math.add_scaled3 (vector a) (vector b) scale }
 {
     *out = math::add_scaled3(*a, *b, scale);
 }
 
 #[unsafe(no_mangle)]
 pub extern "C" fn screens_normalize3(a: &[f64; 3], out: &mut [f64; 3])
-    ensures { left out ≡ Math.normalize3 (vector a) }
+    ensures { out.new ≡ Math.normalize3 (vector a) }
 {
     *out = math::normalize3(*a);
 }

@@ -1,6 +1,6 @@
 -- CR 5's return to a named shape: which nodes differ from it, the numbers in order and the claim of the call. Definitions only.
 use Rattle.std.specs.Prelude.{◌≡◌, ◌↔◌, ◌⊎◌, Bool, not, ◌||◌, List, [], ◌∷◌, ◌++◌, ℕ, ◌*◌, ◌<◌, eqb, length, Float}
-use Rattle.std.specs.Borrow.{Bor}
+use Rattle.std.specs.Borrow.{Bor, MutBor}
 use denote.Triple.Both.{Both}
 use Rattle.binary64.specs.Binary64.{at}
 use Rattle.ieee754.specs.Ieee754.{canonical_bits}
@@ -9,7 +9,6 @@ use Rattle.tri.specs.declared.quadrature.QuadratureKind.{QuadratureKind}
 use Rattle.tri.specs.declared.quadrature.Rule.{Rule}
 use Rattle.refusal.specs.Numbers.{no_such_choice, output_length, zero_area, unknown_name}
 use Rattle.refusal.specs.Checks.{Check, check, first}
-use Rattle.lists.specs.Lent.{passed, left}
 use Rattle.mesh.specs.Mesh.{Mesh, mesh_of, nnode, mesh_checks, max_nodes, max_panels, passed_mesh, left_mesh}
 use Rattle.mesh.specs.Conditions.{ZeroArea, Refused4, Accepted, MeshNumbered}
 use Rattle.coupling.specs.Block.{mutual_inductance_block}
@@ -110,11 +109,11 @@ pub record Screen : Type 0 where
   pub cells : List Float
 
 -- six lent columns and a lent matrix, as they were passed and as a call leaves them that may write coordinates and matrix
-abbrev pub lent_screen : {A B C : Type 0} → Both (Bor (List Float)) (Bor (List Float)) → Both (Bor (List Float)) (Bor (List Float)) → Both (Bor (List Float)) (Bor (List Float))
-    → Both (Bor (List ℕ)) A → Both (Bor (List ℕ)) B → Both (Bor (List ℕ)) C → Both (Bor (List Float)) (Bor (List Float)) → Both Screen Screen
+abbrev pub lent_screen : {A B C : Type 0} → Both (MutBor (List Float)) (MutBor (List Float)) → Both (MutBor (List Float)) (MutBor (List Float)) → Both (MutBor (List Float)) (MutBor (List Float))
+    → Both (Bor (List ℕ)) A → Both (Bor (List ℕ)) B → Both (Bor (List ℕ)) C → Both (MutBor (List Float)) (MutBor (List Float)) → Both Screen Screen
 lent_screen x y z a b c out = record {
-  entry = record { mesh = passed_mesh x y z a b c; cells = passed out };
-  exit = record { mesh = left_mesh x y z a b c; cells = left out };
+  entry = record { mesh = mesh_of x.entry.now y.entry.now z.entry.now a.entry.now b.entry.now c.entry.now; cells = out.entry.now };
+  exit = record { mesh = left_mesh x y z a b c; cells = out.exit.now };
 }
 
 -- the claim of the call, for a rule by its number

@@ -1,8 +1,9 @@
 // CR 5's return to a named shape: its coordinates are set and the cells of the rings of the nodes that differ are
 // worked out anew, so that a fresh matrix is left fresh. Every test is made before anything is written.
+#![tactic(auto)]
+
 ghost use Rattle.std.specs.Prelude.{◌≡◌, ◌*◌, ◌<◌, ◌≤◌, length};
-ghost use Rattle.lists.specs.Lent.{passed, left};
-ghost use Rattle.mesh.specs.Mesh.{max_nodes, passed_mesh, left_mesh, lent_mesh};
+ghost use Rattle.mesh.specs.Mesh.{max_nodes, passed_mesh, left_mesh, lent_mesh, mesh_of};
 ghost use Rattle.mesh.specs.Conditions.{NodeColumnsAlike};
 ghost use Rattle.shape_store.specs.Store.{passed_store};
 ghost use Rattle.shape_return.specs.Return as Spec;
@@ -29,7 +30,7 @@ fn node_differs(
 ) -> bool
     requires a_in_bounds { (a < length x.now) × (a < length y.now) × (a < length z.now) }
     requires a_in_bounds_2 { (a < length px.now) × (a < length py.now) × (a < length pz.now) }
-    ensures { result ≡ Spec.differs (nodes_of (passed x) (passed y) (passed z)) (nodes_of (passed px) (passed py) (passed pz)) a }
+    ensures { result ≡ Spec.differs (nodes_of x.now y.now z.now) (nodes_of px.now py.now pz.now) a }
 {
     let p = mesh::node(x, y, z, a);
     let q = mesh::node(px, py, pz, a);
@@ -49,7 +50,7 @@ fn mark_changed(
     requires node_columns_alike { NodeColumnsAlike (nodes_of x.now y.now z.now) }
     requires node_columns_alike_2 { NodeColumnsAlike (nodes_of px.now py.now pz.now) }
     requires px_len { (length px.now ≡ length x.now) × (length x.now ≤ length changed.old) }
-    ensures { MarksDiffering (nodes_of (passed x) (passed y) (passed z)) (nodes_of (passed px) (passed py) (passed pz)) (left changed) }
+    ensures { MarksDiffering (nodes_of x.now y.now z.now) (nodes_of px.now py.now pz.now) changed.new }
 {
     let mut a = 0;
     while a < x.len() {
@@ -73,7 +74,7 @@ fn mark_changed_rings(
 )
     requires shape_of { ShapeOf (lent_mesh px py pz t0 t1 t2) (lent_mesh x y z t0 t1 t2) }
     requires max_nodes_in_bounds { max_nodes ≤ length marks.old }
-    ensures { MarksChanged (passed_mesh x y z t0 t1 t2) (passed_mesh px py pz t0 t1 t2) (passed marks) (left marks) }
+    ensures { MarksChanged (passed_mesh x y z t0 t1 t2) (passed_mesh px py pz t0 t1 t2) marks.old marks.new }
 {
     let mut changed = [false; mesh::MAX_NODES];
     mark_changed(&mut changed, x, y, z, px, py, pz);
@@ -85,7 +86,7 @@ fn set_nodes(x: &mut [f64], y: &mut [f64], z: &mut [f64], px: &[f64], py: &[f64]
     requires node_columns_alike { NodeColumnsAlike (nodes_of x.old y.old z.old) }
     requires node_columns_alike_2 { NodeColumnsAlike (nodes_of px.now py.now pz.now) }
     requires px_len { length px.now ≡ length x.old }
-    ensures { nodes_of (left x) (left y) (left z) ≡ nodes_of (passed px) (passed py) (passed pz) }
+    ensures { nodes_of x.new y.new z.new ≡ nodes_of px.now py.now pz.now }
 {
     lists::put_numbers(x, 0, px);
     lists::put_numbers(y, 0, py);
@@ -106,9 +107,9 @@ fn restore(
     py: &[f64],
     pz: &[f64],
 ) -> usize
-    requires shape_of { ShapeOf (lent_mesh px py pz t0 t1 t2) (lent_mesh x y z t0 t1 t2) }
+    requires shape_of { ShapeOf (lent_mesh px py pz t0 t1 t2) (mesh_of x.old y.old z.old t0.now t1.now t2.now) }
     requires out_len { length out.old ≡ length x.old * length x.old }
-    ensures { DoneUnder kind (passed_mesh x y z t0 t1 t2) (passed_mesh px py pz t0 t1 t2) (passed out) result (left_mesh x y z t0 t1 t2) (left out) }
+    ensures { DoneUnder kind (mesh_of x.old y.old z.old t0.now t1.now t2.now) (passed_mesh px py pz t0 t1 t2) out.old result (left_mesh x y z t0 t1 t2) out.new }
 {
     let n = x.len();
     let mut marks = [false; mesh::MAX_NODES];
@@ -135,7 +136,7 @@ fn return_refusal(
     sz: &[f64],
     name: &[u8; 8],
 ) -> u32
-    ensures { result ≡ Spec.shape_refusal (passed_mesh x y z t0 t1 t2) (passed_store marks names sx sy sz) (passed name) size }
+    ensures { result ≡ Spec.shape_refusal (passed_mesh x y z t0 t1 t2) (passed_store marks names sx sy sz) name.now size }
 {
     let refusal = mesh::mesh_refusal(x, y, z, t0, t1, t2);
     if refusal != 0 {
@@ -156,7 +157,7 @@ fn return_refusal(
 }
 
 // The answer of a return: the number, and the count of the renewed cells, 0 on a refusal.
-#[derive(Drop)]
+#[derive(Clone, Copy)]
 pub struct Returned {
     pub refusal: u32,
     pub count: usize,
@@ -179,7 +180,7 @@ fn return_under(
     sz: &[f64],
     name: &[u8; 8],
 ) -> Returned
-    ensures { ReturnedUnder kind (lent_screen x y z t0 t1 t2 out) (passed_store marks names sx sy sz) (passed name) result.refusal result.count }
+    ensures { ReturnedUnder kind (lent_screen x y z t0 t1 t2 out) (passed_store marks names sx sy sz) name.now result.refusal result.count }
 {
     let refusal = return_refusal(
         x,
@@ -231,7 +232,7 @@ pub fn return_shape(
     sz: &[f64],
     name: &[u8; 8],
 ) -> Returned
-    ensures { ReturnedBy rule (lent_screen x y z t0 t1 t2 out) (passed_store marks names sx sy sz) (passed name) result.refusal result.count }
+    ensures { ReturnedBy rule (lent_screen x y z t0 t1 t2 out) (passed_store marks names sx sy sz) name.now result.refusal result.count }
 {
     match tri::quadrature::quadrature_rule(rule) {
         Rule::Known(kind) => return_under(

@@ -1,7 +1,7 @@
 -- CR 5's store: eight places for shapes of one mesh, each with a mark, a name of eight bytes and the coordinates of every node, lent as five slices; saving a shape and dropping one. Definitions only.
 use Rattle.std.specs.Prelude.{◌≡◌, Bool, not, ◌&&◌, ◌||◌, cond, List, [], ◌∷◌, ◌++◌, ℕ, ◌+◌, ◌*◌, ◌<◌, ◌≤◌, eqb, length, get_or, set, Float}
 use Rattle.std.proofs.Math.Seq.{paste}
-use Rattle.std.specs.Borrow.{Bor}
+use Rattle.std.specs.Borrow.{Bor, MutBor}
 use denote.Triple.Both.{Both}
 use Rattle.refusal.specs.Numbers.{output_length, unknown_name, no_place}
 use Rattle.refusal.specs.Checks.{Check, check, first}
@@ -37,14 +37,14 @@ abbrev pub passed_store : {A B X Y Z : Type 0} → Both (Bor (List ℕ)) A → B
 passed_store marks names x y z = lent_store marks.entry names.entry x.entry y.entry z.entry
 
 -- as a call leaves them that may write all five
-abbrev pub left_store : Both (Bor (List ℕ)) (Bor (List ℕ)) → Both (Bor (List ℕ)) (Bor (List ℕ))
-    → Both (Bor (List Float)) (Bor (List Float)) → Both (Bor (List Float)) (Bor (List Float)) → Both (Bor (List Float)) (Bor (List Float)) → Store
-left_store marks names x y z = lent_store marks.exit names.exit x.exit y.exit z.exit
+abbrev pub left_store : Both (MutBor (List ℕ)) (MutBor (List ℕ)) → Both (MutBor (List ℕ)) (MutBor (List ℕ))
+    → Both (MutBor (List Float)) (MutBor (List Float)) → Both (MutBor (List Float)) (MutBor (List Float)) → Both (MutBor (List Float)) (MutBor (List Float)) → Store
+left_store marks names x y z = store_of marks.exit.now names.exit.now x.exit.now y.exit.now z.exit.now
 
 -- as a call leaves them that may write the marks
-abbrev pub left_marks : {B X Y Z : Type 0} → Both (Bor (List ℕ)) (Bor (List ℕ)) → Both (Bor (List ℕ)) B
+abbrev pub left_marks : {B X Y Z : Type 0} → Both (MutBor (List ℕ)) (MutBor (List ℕ)) → Both (Bor (List ℕ)) B
     → Both (Bor (List Float)) X → Both (Bor (List Float)) Y → Both (Bor (List Float)) Z → Store
-left_marks marks names x y z = lent_store marks.exit names.entry x.entry y.entry z.entry
+left_marks marks names x y z = store_of marks.exit.now names.entry.now x.entry.now y.entry.now z.entry.now
 
 -- ---- places
 -- any mark but 0

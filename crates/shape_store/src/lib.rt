@@ -1,7 +1,8 @@
 // CR 5's store for eight shapes of one mesh: the place of a name, saving a shape and dropping one. Every test is
 // made before anything is written.
+#![tactic(auto)]
+
 ghost use Rattle.std.specs.Prelude.{◌≡◌, [], ◌*◌, ◌<◌, ◌≤◌, length};
-ghost use Rattle.lists.specs.Lent.{passed, left};
 ghost use Rattle.mesh.specs.Mesh.{max_nodes, passed_mesh};
 ghost use Rattle.shape_store.specs.Store as Spec;
 ghost use Rattle.shape_store.specs.Store.{store_of, places, name_length, passed_store, left_store, left_marks, Saved, Dropped};
@@ -30,7 +31,7 @@ pub fn store_differs(
 // The name at place p is that name.
 fn same_name(names: &[u8], name: &[u8; 8], p: usize) -> bool
     requires { (length names.now ≡ places * name_length) × (p < places) }
-    ensures { result ≡ Spec.same_name (passed names) (passed name) p }
+    ensures { result ≡ Spec.same_name names.now name.now p }
 {
     let mut k = 0;
     while k < NAME_LENGTH {
@@ -45,7 +46,7 @@ fn same_name(names: &[u8], name: &[u8; 8], p: usize) -> bool
 // The first place that holds the name, 8 if none does.
 pub fn find_name(marks: &[u8], names: &[u8], name: &[u8; 8]) -> usize
     requires { (length marks.now ≡ places) × (length names.now ≡ places * name_length) }
-    ensures { result ≡ Spec.place_of (store_of (passed marks) (passed names) [] [] []) (passed name) }
+    ensures { result ≡ Spec.place_of (store_of marks.now names.now [] [] []) name.now }
 {
     let mut p = 0;
     while p < PLACES {
@@ -60,7 +61,7 @@ pub fn find_name(marks: &[u8], names: &[u8], name: &[u8; 8]) -> usize
 // The first free place, 8 if there is none.
 fn find_free(marks: &[u8]) -> usize
     requires { length marks.now ≡ places }
-    ensures { result ≡ Spec.free_place (store_of (passed marks) [] [] [] []) }
+    ensures { result ≡ Spec.free_place (store_of marks.now [] [] [] []) }
 {
     let mut p = 0;
     while p < PLACES {
@@ -75,7 +76,7 @@ fn find_free(marks: &[u8]) -> usize
 // Where a shape of that name is saved, 8 if there is no place.
 fn place_for(marks: &[u8], names: &[u8], name: &[u8; 8]) -> usize
     requires { (length marks.now ≡ places) × (length names.now ≡ places * name_length) }
-    ensures { result ≡ Spec.place_for (store_of (passed marks) (passed names) [] [] []) (passed name) }
+    ensures { result ≡ Spec.place_for (store_of marks.now names.now [] [] []) name.now }
 {
     let found = find_name(marks, names, name);
     if found == PLACES {
@@ -113,8 +114,8 @@ fn store_refusal(
 // A new name takes its place with the mark 1; a held one keeps its mark.
 fn name_place(marks: &mut [u8], names: &mut [u8], name: &[u8; 8], p: usize)
     requires { (length marks.old ≡ places) × (length names.old ≡ places * name_length) × (p < places) }
-    ensures marks_value { left marks ≡ Spec.marks_with (store_of (passed marks) (passed names) [] [] []) (passed name) p }
-    ensures names_value { left names ≡ Spec.names_with (store_of (passed marks) (passed names) [] [] []) (passed name) p }
+    ensures marks_value { marks.new ≡ Spec.marks_with (store_of marks.old names.old [] [] []) name.now p }
+    ensures names_value { names.new ≡ Spec.names_with (store_of marks.old names.old [] [] []) name.now p }
 {
     let is_new = find_name(marks, names, name) == PLACES;
     if is_new {
@@ -134,9 +135,9 @@ fn save_coordinates(
     p: usize,
 )
     requires { Spec.ColumnsReady (store_of [] [] sx.old sy.old sz.old) x.now y.now z.now p }
-    ensures sx_value { left sx ≡ Spec.column_with (passed sx) p (passed x) }
-    ensures sy_value { left sy ≡ Spec.column_with (passed sy) p (passed y) }
-    ensures sz_value { left sz ≡ Spec.column_with (passed sz) p (passed z) }
+    ensures sx_value { sx.new ≡ Spec.column_with sx.old p x.now }
+    ensures sy_value { sy.new ≡ Spec.column_with sy.old p y.now }
+    ensures sz_value { sz.new ≡ Spec.column_with sz.old p z.now }
 {
     let start = p * x.len();
     lists::put_numbers(sx, start, x);
@@ -159,7 +160,7 @@ pub fn save_shape(
     sz: &mut [f64],
     name: &[u8; 8],
 ) -> u32
-    ensures { Saved (passed_mesh x y z t0 t1 t2) (passed_store marks names sx sy sz) (passed name) result (left_store marks names sx sy sz) }
+    ensures { Saved (passed_mesh x y z t0 t1 t2) (store_of marks.old names.old sx.old sy.old sz.old) name.now result (left_store marks names sx sy sz) }
 {
     let refusal = store_refusal(x, y, z, t0, t1, t2, marks, names, sx, sy, sz);
     if refusal != 0 {
@@ -189,7 +190,7 @@ pub fn drop_shape(
     sz: &[f64],
     name: &[u8; 8],
 ) -> u32
-    ensures { Dropped (passed_mesh x y z t0 t1 t2) (passed_store marks names sx sy sz) (passed name) result (left_marks marks names sx sy sz) }
+    ensures { Dropped (passed_mesh x y z t0 t1 t2) (store_of marks.old names.now sx.now sy.now sz.now) name.now result (left_marks marks names sx sy sz) }
 {
     let refusal = store_refusal(x, y, z, t0, t1, t2, marks, names, sx, sy, sz);
     if refusal != 0 {

@@ -1,6 +1,8 @@
 // IEEE 754's square_root of binary64, rounded to nearest. A float estimate, of which nothing is
 // proved, is the answer where one test over whole numbers says so; elsewhere the digits of the root
 // are found one by one.
+#![tactic(auto)]
+
 ghost use Rattle.std.specs.Prelude.{◌≡◌, ◌+◌, ◌-◌, ◌*◌, ◌/◌, ◌%◌, ◌^◌, ◌<◌, ◌≤◌, T, from_bits, to_bits};
 ghost use Rattle.std.specs.Float.{binary64};
 ghost use Rattle.binary64.specs.Format.{precision, trailing, infinity_bits};
@@ -14,14 +16,14 @@ use binary64::{INFINITY_BITS, LEADING_BIT, SIGN_BIT};
 const ROOT_PLACE: u64 = 485;
 
 // The digits of a number above and below 2^52.
-#[derive(Drop)]
+#[derive(Clone, Copy)]
 pub struct Split {
     pub high: u64,
     pub low: u64,
 }
 
 // A difference of words, modulo 2^64, and the 1 that it takes from the next word.
-#[derive(Drop)]
+#[derive(Clone, Copy)]
 pub struct Difference {
     pub word: u64,
     pub borrow: u64,

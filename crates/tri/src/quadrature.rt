@@ -3,7 +3,7 @@ ghost use Rattle.std.specs.Prelude.{◌≡◌, ◌<◌};
 ghost use Rattle.tri.specs.Quadrature as Spec;
 ghost use Rattle.tri.specs.Groups as Groups;
 
-#[derive(Drop)]
+#[derive(Clone, Copy)]
 pub enum QuadratureKind {
     Dunavant1,
     Dunavant2,
@@ -13,7 +13,7 @@ pub enum QuadratureKind {
 }
 
 // What a rule's number stands for.
-#[derive(Drop)]
+#[derive(Clone, Copy)]
 pub enum Rule {
     Known(QuadratureKind),
     Unknown,

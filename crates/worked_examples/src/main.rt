@@ -1,6 +1,8 @@
 // Document 01's bench sheet, worked out and printed, and the three elementary functions against the host C library's values. What
 // is printed is compared with the file stdout: its numbers are document 01's, and for the last three lines what oracle/libm_table.c
 // finds for the same formulas.
+#![tactic(auto)]
+
 mod gaps;
 mod lines;
 mod sheet;

@@ -1,0 +1,27 @@
+-- After i turns the first i are in place.
+use Prim.Native.Nat.{◌-◌}
+use native.Mathlib.Omega.{arith}
+use Rattle.lists.proofs.Indices.{index_fits}
+use Rattle.lists.proofs.Filled.{filled_start, filled_next, filled_all}
+use Rattle.elementary_lanes.proofs.excesses.Goals as goal
+
+pub loop-i-preserved : goal.loop-i-preserved
+loop-i-preserved c = filled_next (omega arith) c.excess.ensures c.loop-i.invariant
+
+pub loop-i-init : goal.loop-i-init
+loop-i-init c = filled_start (omega arith)
+
+pub offset_bounds-x-i : goal.offset_bounds-x-i
+offset_bounds-x-i c = index_fits (omega arith)
+
+pub offset_bounds-q-i : goal.offset_bounds-q-i
+offset_bounds-q-i c = index_fits (omega arith)
+
+pub offset_bounds-out-i : goal.offset_bounds-out-i
+offset_bounds-out-i c = index_fits (omega arith)
+
+pub overflow_step-i : goal.overflow_step-i
+overflow_step-i c = index_fits (omega arith)
+
+pub returns : goal.returns
+returns c = filled_all (omega arith) c.loop-i.invariant

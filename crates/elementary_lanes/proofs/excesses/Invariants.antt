@@ -1,0 +1,12 @@
+-- After i turns the first i are in place.
+use Prim.Native.Nat.{ℕ, ◌-◌}
+use Rattle.binary64.specs.Binary64.{at}
+use Rattle.lists.proofs.Filled.{Filled}
+use Rattle.elementary_lanes.specs.Lanes as Lanes
+use Rattle.elementary_lanes.proofs.excesses.Given as goal
+
+abbrev pub invariant-loop-i : goal.invariant-loop-i
+invariant-loop-i l = Filled 14 (λ (k : ℕ). Lanes.excess (at l.x k) (at l.q k)) l.out l.i
+
+abbrev pub decreases-loop-i : goal.decreases-loop-i
+decreases-loop-i l = 14 - l.i

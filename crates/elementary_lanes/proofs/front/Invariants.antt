@@ -1,0 +1,11 @@
+-- After i turns the first i numbers are in place.
+use Prim.Native.Nat.{ℕ, ◌-◌}
+use Rattle.binary64.specs.Binary64.{at}
+use Rattle.lists.proofs.Filled.{Filled}
+use Rattle.elementary_lanes.proofs.front.Given as goal
+
+abbrev pub invariant-loop-i : goal.invariant-loop-i
+invariant-loop-i l = Filled 7 (λ (k : ℕ). at l.r k) l.out l.i
+
+abbrev pub decreases-loop-i : goal.decreases-loop-i
+decreases-loop-i l = 7 - l.i

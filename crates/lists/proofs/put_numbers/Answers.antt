@@ -1,0 +1,22 @@
+-- After k turns the first k numbers are in place, the others as held.
+use mathlib.Core.Path.{refl}
+use Prim.Native.Nat.{◌-◌}
+use native.Mathlib.Omega.{arith}
+use lib.Ieee.{nan}
+use Rattle.lists.proofs.Runs.{begun, next_room, one_further, all_put}
+use Rattle.lists.proofs.put_numbers.Goals as goal
+
+pub loop-k-init : goal.loop-k-init
+loop-k-init c = begun c.requires
+
+pub bounds-out-from : goal.bounds-out-from
+bounds-out-from c = omega (arith, next_room c.loop-k.invariant c.loop-k-test.true)
+
+pub loop-k-preserved : goal.loop-k-preserved
+loop-k-preserved c = one_further c.loop-k.invariant c.loop-k-test.true refl refl
+
+pub shape_of-out : goal.shape_of-out
+shape_of-out c = c.loop-k.invariant.long
+
+pub returns : goal.returns
+returns c = all_put nan c.args.numbers.now c.loop-k.invariant (omega arith)

@@ -1,0 +1,12 @@
+-- After k turns the first k places hold the file's coordinates, the others what was lent.
+use Prim.Native.Nat.{◌-◌}
+use lib.ListN.{length}
+use Rattle.lists.proofs.Runs.{RunTo}
+use Rattle.panel_file.specs.PanelFile as Spec
+use Rattle.panel_file.proofs.fill_coordinates.Given as goal
+
+abbrev pub invariant-loop-k : goal.invariant-loop-k
+invariant-loop-k l = RunTo l.initial.out 0 (length l.initial.out) (Spec.coordinate l.bytes l.axis) l.k l.out
+
+abbrev pub decreases-loop-k : goal.decreases-loop-k
+decreases-loop-k l = length l.initial.out - l.k

@@ -1,0 +1,78 @@
+-- A refusal leaves the columns as they were; a call that goes on has a whole file and columns of its counts, and each is filled.
+use mathlib.Core.Path.{◌≡◌, refl, sym, ◌∙◌}
+use Prim.Native.Nat.{ℕ}
+use native.Mathlib.Omega.{arith}
+use Rattle.mesh.specs.Mesh.{Mesh, mesh_of}
+use Rattle.refusal.proofs.Checks.{after-done, after-refused}
+use Rattle.panel_file.specs.PanelFile.{node_count, length_differs, lengths_of, Holds}
+use Rattle.panel_file.specs.Conditions.{MeshColumnsDue}
+use mathlib.Core.Bool.{false}
+use Rattle.panel_file.proofs.Accepted.{ready, whole, with_count}
+use Rattle.panel_file.proofs.read_panel_file_within.Goals as goal
+use Rattle.panel_file.proofs.read_panel_file_within.Tie as tie
+
+abbrev lent : tie.Start → Mesh
+lent c = mesh_of c.args.x.now c.args.y.now c.args.z.now c.args.t0.now c.args.t1.now c.args.t2.now
+
+abbrev entered : tie.Else-refusal-ne0 → tie.After-shared_slice_known-1
+entered c =
+    c
+
+abbrev entry : tie.Else-refusal-ne0 → tie.Start
+entry c = (entered c).before
+
+-- a call that goes on: the file is whole and the columns are of its counts
+known : (c : tie.Else-refusal-ne0) → (length_differs 0 (entry c).args.bytes.now ≡ false) × MeshColumnsDue (entry c).args.bytes.now (lengths_of (lent (entry c)))
+known c = ready _ _ _ (lengths_of (lent (entry c))) (sym c.read_refusal-refusal.ensures ∙ c.if-refusal-ne0.false)
+
+holds : (c : tie.Else-refusal-ne0) (n : ℕ) → n ≡ node_count (entry c).args.bytes.now → Holds n (entry c).args.bytes.now
+holds c n e = with_count n _ e (whole 0 _ (λ k. ((entered c).shared-slice-known.given k).fits) (known c).0)
+
+pub returns-then-refusal-ne0 : goal.returns-then-refusal-ne0
+returns-then-refusal-ne0 c =
+    let n = c.if-refusal-ne0.true in
+    record {
+      number = c.read_refusal-refusal.ensures;
+      x = sym (after-refused _ _ _ n);
+      y = sym (after-refused _ _ _ n);
+      z = sym (after-refused _ _ _ n);
+      t0 = sym (after-refused _ _ _ n);
+      t1 = sym (after-refused _ _ _ n);
+      t2 = sym (after-refused _ _ _ n);
+    }
+
+pub fill_coordinates-requires : goal.fill_coordinates-requires
+fill_coordinates-requires c =
+    (holds c _ (known c).1.nodes.first, omega arith)
+
+pub fill_coordinates-requires-2 : goal.fill_coordinates-requires-2
+fill_coordinates-requires-2 c =
+    (holds c _ (known c).1.nodes.second, omega arith)
+
+pub fill_coordinates-requires-3 : goal.fill_coordinates-requires-3
+fill_coordinates-requires-3 c =
+    (holds c _ (known c).1.nodes.third, omega arith)
+
+pub fill_indices-requires : goal.fill_indices-requires
+fill_indices-requires c =
+    (holds c _ (known c).1.nodes.first, omega arith, (known c).1.panels.first)
+
+pub fill_indices-requires-2 : goal.fill_indices-requires-2
+fill_indices-requires-2 c =
+    (holds c _ (known c).1.nodes.first, omega arith, (known c).1.panels.second)
+
+pub fill_indices-requires-3 : goal.fill_indices-requires-3
+fill_indices-requires-3 c =
+    (holds c _ (known c).1.nodes.first, omega arith, (known c).1.panels.third)
+
+pub returns : goal.returns
+returns c =
+    record {
+      number = sym c.if-refusal-ne0.false ∙ c.read_refusal-refusal.ensures;
+      x = c.fill_coordinates.ensures ∙ sym (after-done 0 _ _ refl);
+      y = c.fill_coordinates-2.ensures ∙ sym (after-done 0 _ _ refl);
+      z = c.fill_coordinates-3.ensures ∙ sym (after-done 0 _ _ refl);
+      t0 = c.fill_indices.ensures ∙ sym (after-done 0 _ _ refl);
+      t1 = c.fill_indices-2.ensures ∙ sym (after-done 0 _ _ refl);
+      t2 = c.fill_indices-3.ensures ∙ sym (after-done 0 _ _ refl);
+    }

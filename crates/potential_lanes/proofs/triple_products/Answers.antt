@@ -1,0 +1,33 @@
+-- As in distances_from_plane: a turn writes the next product.
+use Prim.Native.Nat.{◌-◌}
+use native.Mathlib.Omega.{arith}
+use Rattle.lists.proofs.Indices.{index_fits}
+use Rattle.lists.proofs.Filled.{filled_start, filled_next, filled_all}
+use Rattle.potential_lanes.proofs.triple_products.Goals as goal
+
+pub loop-i-preserved : goal.loop-i-preserved
+loop-i-preserved c =
+    filled_next (omega arith)
+    (rw (c.dot3.ensures, c.cross3.ensures, c.sub3-in-loop-i-2.ensures, c.sub3-in-loop-i.ensures, c.sub3.ensures))
+    c.loop-i.invariant
+
+pub loop-i-init : goal.loop-i-init
+loop-i-init c = filled_start (omega arith)
+
+pub offset_bounds-x-i : goal.offset_bounds-x-i
+offset_bounds-x-i c = index_fits (omega arith)
+
+pub offset_bounds-y-i : goal.offset_bounds-y-i
+offset_bounds-y-i c = index_fits (omega arith)
+
+pub offset_bounds-z-i : goal.offset_bounds-z-i
+offset_bounds-z-i c = index_fits (omega arith)
+
+pub offset_bounds-out-i : goal.offset_bounds-out-i
+offset_bounds-out-i c = index_fits (omega arith)
+
+pub overflow_step-i : goal.overflow_step-i
+overflow_step-i c = index_fits (omega arith)
+
+pub returns : goal.returns
+returns c = filled_all (omega arith) c.loop-i.invariant

@@ -1,0 +1,11 @@
+-- As in distances_from_plane: a turn writes the next product.
+use Prim.Native.Nat.{ℕ, ◌-◌}
+use Rattle.lists.proofs.Filled.{Filled}
+use Rattle.potential_lanes.specs.Seven as Spec
+use Rattle.potential_lanes.proofs.triple_products.Given as goal
+
+abbrev pub invariant-loop-i : goal.invariant-loop-i
+invariant-loop-i l = Filled 7 (λ (j : ℕ). Spec.triple l.a l.b l.c (Spec.point l.x l.y l.z j)) l.out l.i
+
+abbrev pub decreases-loop-i : goal.decreases-loop-i
+decreases-loop-i l = 7 - l.i

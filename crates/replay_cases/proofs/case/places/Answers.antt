@@ -1,0 +1,15 @@
+-- The array is filled from the front.
+use Rattle.std.proofs.Common.{◌-◌, rules}
+use Rattle.replay_cases.specs.Case.{place_at, places_of}
+use Rattle.replay_cases.proofs.Unpacked.{start, one_more, whole}
+use Rattle.replay_cases.proofs.case.places.Goals as goal
+
+pub loop-i-init : goal.loop-i-init
+loop-i-init c = start (search rules)
+
+pub loop-i-preserved : goal.loop-i-preserved
+loop-i-preserved c = one_more _ c.loop-i.invariant c.loop-i-test.true c.place_at.ensures
+
+pub returns : goal.returns
+unfolding places_of
+returns c = whole c.loop-i.invariant c.loop-i-test.false

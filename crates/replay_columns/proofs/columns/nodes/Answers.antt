@@ -1,0 +1,15 @@
+-- The column ends where the next begins, and holds at most twenty.
+use Prim.Native.Nat.{◌+◌, ◌-◌, ◌≤◌}
+use native.Mathlib.Omega.{arith}
+use Rattle.replay_words.proofs.Lent.{at_most}
+use Rattle.replay_columns.specs.Columns.{column}
+use Rattle.replay_columns.proofs.Ends.{column_next}
+use Rattle.replay_columns.proofs.columns.nodes.Goals as goal
+
+pub returns : goal.returns
+unfolding column
+returns c =
+    let a = c.column_at-a in
+    let e = c.column_end-e in
+    let h : e.result - (a.result + 1) ≤ 48 = omega arith in
+    (rw (column_next, ← a.ensures.0, ← e.ensures.0), at_most _ _ _ h)

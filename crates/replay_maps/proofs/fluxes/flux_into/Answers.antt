@@ -1,0 +1,7 @@
+-- The call's number and what it leaves in its buffers are the ones due.
+use Rattle.replay_maps.proofs.fluxes.flux_into.Goals as goal
+
+pub returns : goal.returns
+returns c =
+    let e = c.triangle_mesh_flux_linkage_from_source_coefficients-refusal.ensures in
+    rw (← e.refusal, ← e.flux, ← c.same_word-a.ensures, ← c.held-b.ensures)

@@ -1,0 +1,113 @@
+-- The copies are the columns and the matrix of the case; the store begins behind them.
+use lib.ListN.{length, drop}
+use Prim.Native.Nat.{◌+◌}
+use native.Mathlib.Nat.{le-add_right}
+use native.Mathlib.Omega.{arith}
+use borrow.Author.Rules.{zero≤}
+use Rattle.lists.proofs.Indices.{index_fits}
+use Rattle.replay_words.proofs.Copy.{copy_long}
+use Rattle.replay_columns.proofs.Leaving.{cells_short, column_short}
+use Rattle.replay_return.proofs.Returned.{Places, behind-mesh, mesh_inside, places, store_inside}
+use Rattle.replay_return.proofs.return_of.Goals as goal
+use Rattle.replay_return.proofs.return_of.Tie as tie
+
+-- each place seen from a later one: the entry, where the matrix's length is read, where all is copied
+abbrev entry : tie.After-shared_slice_known-6-1 → tie.Start
+entry c =
+    c
+
+abbrev cut : tie.After-copied-cs → tie.After-cut_at
+cut c =
+    c
+
+abbrev copied : tie.After-cs-1 → tie.After-copied-cs
+copied c = c
+
+within : (c : tie.After-cut_at) → Places (entry c).args.g c.cut_at.result
+within c = places _ _ (entry c).requires.0 c.cut_at.ensures.1
+
+pub return_into-requires : goal.return_into-requires
+return_into-requires c =
+    let d = copied c in
+    let n = cut d in
+    let s = entry n.before in
+    let a = s.args in
+    let l = store_inside a.g n.cut_at.result (length a.x.now) (length a.y.now) (length a.z.now) (drop (a.g + 1) a.f.now) s.pre n.cut_at.ensures.1 in
+    record { q_bound = ((within n).store, l); x_value = (d.before.before.before.copied.ensures, d.before.before.copied2.ensures, d.before.copied3.ensures, d.copied4.ensures) }
+
+pub returns : goal.returns
+returns c =
+    let d = copied c in
+    let n = cut d in
+    let a = (entry n.before).args in
+    behind-mesh a.rule a.b.now a.f.now a.w.now a.g _ a.t0.now a.t1.now a.t2.now
+    n.cut_at.ensures.0 d.before.before.before.copied.ensures d.before.before.copied2.ensures d.before.copied3.ensures d.copied4.ensures c.return_into.ensures
+
+pub overflow_add-q : goal.overflow_add-q
+overflow_add-q c = index_fits (omega arith)
+
+pub cut_at-requires : goal.cut_at-requires
+cut_at-requires c = mesh_inside _ (entry c).requires.0
+
+pub overflow_add-q-2 : goal.overflow_add-q-2
+overflow_add-q-2 c = (within c).matrix_end
+
+pub overflow_add-cells : goal.overflow_add-cells
+overflow_add-cells c = (within c).one
+
+pub offset_bounds-all-g : goal.offset_bounds-all-g
+offset_bounds-all-g c = (within c).one-bytes
+
+pub slice_bounds-cells-count : goal.slice_bounds-cells-count
+slice_bounds-cells-count c = le-add_right _ _
+
+pub slice_bounds-cells-start : goal.slice_bounds-cells-start
+slice_bounds-cells-start c = le-add_right _ _
+
+pub copied-xs-requires : goal.copied-xs-requires
+copied-xs-requires c = column_short _ (entry c).requires.1
+
+pub copied-ys-requires : goal.copied-ys-requires
+copied-ys-requires c = column_short _ (entry c).requires.2
+
+pub copied-zs-requires : goal.copied-zs-requires
+copied-zs-requires c = column_short _ (entry c).requires.3
+
+pub copied-cs-requires : goal.copied-cs-requires
+copied-cs-requires c = cells_short _ _ _ _ c.cut_at.ensures.1
+
+pub slice_bounds-return_into-count : goal.slice_bounds-return_into-count
+slice_bounds-return_into-count c = zero≤
+
+pub slice_bounds-xs-start : goal.slice_bounds-xs-start
+slice_bounds-xs-start c = zero≤
+
+pub slice_bounds-xs-end : goal.slice_bounds-xs-end
+slice_bounds-xs-end c = copy_long _ c.copied-xs.result c.copied-xs.ensures
+
+pub slice_bounds-return_into-count-2 : goal.slice_bounds-return_into-count-2
+slice_bounds-return_into-count-2 c = zero≤
+
+pub slice_bounds-ys-start : goal.slice_bounds-ys-start
+slice_bounds-ys-start c = zero≤
+
+pub slice_bounds-ys-end : goal.slice_bounds-ys-end
+slice_bounds-ys-end c = copy_long _ c.copied-ys.result c.copied-ys.ensures
+
+pub slice_bounds-return_into-count-3 : goal.slice_bounds-return_into-count-3
+slice_bounds-return_into-count-3 c = zero≤
+
+pub slice_bounds-zs-start : goal.slice_bounds-zs-start
+slice_bounds-zs-start c = zero≤
+
+pub slice_bounds-zs-end : goal.slice_bounds-zs-end
+slice_bounds-zs-end c = copy_long _ c.copied-zs.result c.copied-zs.ensures
+
+pub slice_bounds-return_into-count-4 : goal.slice_bounds-return_into-count-4
+slice_bounds-return_into-count-4 c = zero≤
+
+pub slice_bounds-cs-start : goal.slice_bounds-cs-start
+slice_bounds-cs-start c = zero≤
+
+pub slice_bounds-cs-end : goal.slice_bounds-cs-end
+slice_bounds-cs-end c = copy_long _ _ c.copied-cs.ensures

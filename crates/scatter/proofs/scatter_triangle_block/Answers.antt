@@ -1,0 +1,16 @@
+-- Three rows, one after the other, in one orientation.
+use lib.ListN.{get_or}
+use Rattle.lists.specs.Counting.{triple}
+use Rattle.scatter.specs.Entries.{row_entries, block_entries}
+use Rattle.scatter.specs.Renewal.{marked}
+use Rattle.scatter.proofs.Steps.{three_steps}
+use Rattle.scatter.proofs.scatter_triangle_block.Goals as goal
+
+pub returns : goal.returns
+unfolding block_entries row_entries
+returns c =
+    let a = c.args in
+    three_steps (marked a.marks.now) a.n a.transposed a.out.now (row_entries (get_or a.t4 0 0) (triple a.t) a.t6 0) (row_entries (get_or a.t4 1 0) (triple a.t) a.t6 3) (row_entries (get_or a.t4 2 0) (triple a.t) a.t6 6)
+    c.add_row.ensures
+    c.add_row-2.ensures
+    c.add_row-3.ensures
