@@ -153,6 +153,7 @@ def turn_body(fn,text,env,log_ctx):
             place,rest=r
             if not rest: return 'c'
             s=rest[0]
+            if s=='pre': s='requires'; rest=['requires']+rest[1:]
             if s=='requires' and fn.pre:
                 pr=proj(rest[1:],fn.pre)
                 if pr is not None and len(rest)>1: return '.'.join(['c','requires']+pr)
@@ -169,6 +170,14 @@ def turn_body(fn,text,env,log_ctx):
             say('step?',log_ctx,m.group(0),place)
             return '.'.join(['c']+rest)
         return re.sub(NAME+r"(?:\."+NAME+r")*",f,text)
+    for A,Q in fn.classA.items():
+        env=dict(env); env['ctx_'+A]=Q
+    prev=None
+    while prev!=text:
+        prev=text
+        for A,Q in fn.classA.items():
+            text=re.sub(r"\("+re.escape(A)+r" ("+NAME+r"(?:\.before)*)\)",'ctx_'+A,text)
+            text=re.sub(r"(?<![^\s(){}\[\],;.←])"+re.escape(A)+r" ("+NAME+r"(?:\.before)*)(?=[\s)])",'ctx_'+A,text)
     LET=re.compile(r"\blet ("+NAME+r")(?: : tie\."+NAME+r")? = ("+NAME+r"(?:\.before)*) in(?=[\s])[ ]?")
     while True:
         m=LET.search(text,pos)
@@ -189,6 +198,7 @@ def turn_body(fn,text,env,log_ctx):
             out+=rep(text[pos:m.end()],env); pos=m.end()
     # clean: blank lines
     out=re.sub(r'\n[ \t]*(?=\n)','',out)
+    out=out.replace('.type-inv','.type_inv')
     return out
 
 def shadow_sub(text,mp):
@@ -255,6 +265,17 @@ def convert(crate,rel,info,dest):
     loopi=0
     loopmap={}
     for (o,n),vs in fn.loops: loopmap[norm(o)]=(n,vs)
+    fn.classA={}; B={}; Border=[]
+    for b in blocks:
+        b2=[l for l in b if not l.startswith('--')]
+        if not b2: continue
+        m=re.match(r"^((?:abbrev |pub |unfoldable )*)("+NAME+r") : (.*)$",b2[0])
+        if m:
+            am=re.match(r"^(?:\("+NAME+r" : )?tie\.("+NAME+r")(?: "+NAME+r")*\)? → tie\.("+NAME+r")(?: "+NAME+r")*$",m.group(3))
+            if am and not am.group(1).startswith(('Need','invariant','decreases')):
+                q=fn.bynormplace.get(nstep(am.group(2)))
+                fn.classA[m.group(2)]=q
+                if q is None: say('classA?',ctx,m.group(2),am.group(2))
     for b in blocks:
         comments=[l for l in b if l.startswith('--')]
         b2=[l for l in b if not l.startswith('--')]
@@ -315,8 +336,40 @@ def convert(crate,rel,info,dest):
             body='%s c%s =%s'%(new,''.join(' '+e for e in extra),bt2)
             ans.append((new,'\n'.join(comments+['pub %s : goal.%s'%(new,new)]+unf+[body]),name))
             continue
+        if name in fn.classA: continue
         # helper: may take tie places
         hs=s
+        # class B: first argument a place
+        sig0=s; eqm=re.search(r"^(?:unfolding .*\n)?"+re.escape(name)+r"(?:\s+[^\n=]*?)?\s=(?=\s)",s[len(b2[0]):].lstrip('\n') and s,re.M)
+        dm=None
+        for mm2 in re.finditer(r"^"+re.escape(name)+r"((?:\s+"+NAME+r")*)\s+=(?=\s)",s,re.M): dm=mm2; break
+        if dm and 'tie.' in s:
+            sigtext=s[:dm.start()]
+            unf=re.findall(r"^unfolding (.*)$",sigtext,re.M)
+            sigtext=re.sub(r"^unfolding .*\n?","",sigtext,flags=re.M).rstrip()
+            typ=sigtext.split(' : ',1)[1]
+            fm=re.match(r"^\(("+NAME+r") : tie\.("+NAME+r")(?: "+NAME+r")*\)\s*→\s*(.*)$",typ,re.S)
+            fm2=re.match(r"^tie\.("+NAME+r")(?: "+NAME+r")*\s*→\s*(.*)$",typ,re.S)
+            args=dm.group(1).split()
+            if (fm or fm2) and args:
+                if fm: bv,pl,T=fm.group(1),fm.group(2),fm.group(3)
+                else: bv,pl,T=args[0],fm2.group(1),fm2.group(2)
+                place=fn.bynormplace.get(nstep(pl))
+                if place is None: say('place?',ctx,name,pl)
+                T2=turn_body(fn,T,{bv:place},ctx+':'+name)
+                bt=turn_body(fn,s[dm.end():],{args[0]:place},ctx+':'+name)
+                if 'tie.' not in T2:
+                    lam=''
+                    if args[1:]:
+                        # types of the further arguments from T
+                        lam='λ '+' '.join(args[1:])+'. '
+                        tys=re.findall(r"\(("+NAME+r"(?: "+NAME+r")*) : ((?:[^()]|\((?:[^()]|\([^()]*\))*\))*)\)\s*→",T2)
+                        fl=[(v,t) for g,t in tys for v in g.split()]
+                        if len(fl)>=len(args)-1: lam='λ '+' '.join('(%s : %s)'%(a,t) for a,(v,t) in zip(args[1:],fl))+'. '
+                        else: say('lam?',ctx,name,T2[:80])
+                    B[name]=(T2.strip(),lam+re.sub(r"\s*\n\s*",' ',bt.strip()),unf,comments); Border.append(name)
+                    continue
+        say('helperC',ctx,name,ty[:80]) if 'tie.' in s else None
         pm=re.findall(r"\((("+NAME+r")(?: "+NAME+r")*) : tie\.("+NAME+r")([^)]*)\)",hs)
         am=re.match(r"^tie\.("+NAME+r") → ",ty)
         body=b2[1:]
@@ -338,6 +391,76 @@ def convert(crate,rel,info,dest):
             say('helper',ctx,name,ty[:80])
             hs=hs2
         helpers.append('\n'.join(comments+[hs]))
+    if B or fn.classA:
+        def uses_of(txt): return [n for n in Border if re.search(r"(?<![^\s(){}\[\],;.←])"+re.escape(n)+r"(?![^\s(){}\[\],;.])",txt)]
+        def strip(txt):
+            for n in list(B)+list(fn.classA):
+                rp=n if n in B else 'c'
+                txt=re.sub(r"\("+re.escape(n)+r" c\)",rp,txt)
+                txt=re.sub(r"(?<![^\s(){}\[\],;.←])"+re.escape(n)+r" c(?![^\s(){}\[\],;])",rp,txt)
+            return txt
+        newans=[]
+        for n0,t0,nm in ans:
+            need=set();todo=uses_of(t0)
+            while todo:
+                x=todo.pop()
+                if x in need: continue
+                need.add(x); todo+=uses_of(B[x][0]+' '+B[x][1])
+            t1=strip(t0)
+            if need:
+                unf=[u for x in Border if x in need for u in B[x][2]]
+                lets=''.join('\n    let %s : %s = %s in'%(x,strip(B[x][0]),strip(B[x][1])) for x in Border if x in need)
+                mh=re.search(r"^("+re.escape(n0)+r" c[^=\n]*=)",t1,re.M)
+                if not mh: say('anshead?',ctx,n0)
+                else:
+                    rest=t1[mh.end():]
+                    if not rest.startswith('\n'): rest='\n    '+rest.lstrip()
+                    t1=t1[:mh.end()]+lets+rest
+                    if unf:
+                        um=re.search(r"^unfolding (.*)$",t1,re.M)
+                        words=' '.join(unf).split()
+                        if um: words=um.group(1).split()+[w for w in words if w not in um.group(1).split()]; t1=t1[:um.start()]+'unfolding '+' '.join(dict.fromkeys(words))+t1[um.end():]
+                        else: t1=t1.replace('\n','\nunfolding '+' '.join(dict.fromkeys(words))+'\n',1) if not t1.startswith('--') else re.sub(r"^(pub .*)$",lambda m: m.group(1)+'\nunfolding '+' '.join(dict.fromkeys(words)),t1,count=1,flags=re.M)
+            newans.append((n0,t1,nm))
+        ans=newans
+    def tidy(t):
+        def f(m):
+            st=m.group(1)
+            for q,x in fn.step.items():
+                if x[1]==st: return m.group(0)
+            for q,x in fn.step.items():
+                if x[0] and nstep(x[0])==nstep(st): return 'c.'+x[1]
+            return m.group(0)
+        t=re.sub(r"(?<![^\s(){}\[\],;←])c\.("+NAME+")",f,t)
+        return re.sub(r"\(c\)",'c',t)
+    pars=info.get('params',{})
+    def deep(t):
+        al={'c.'+k:k for k in fn.callee}
+        for m in re.finditer(r"\blet ("+NAME+r") = c\.("+NAME+r") in",t): al[m.group(1)]=m.group(2)
+        def f(m):
+            st=al.get(m.group(1)); cal=fn.callee.get(st) if st else None
+            if not cal: return m.group(0)
+            field=m.group(2); idx=m.group(3).strip('.').split('.')
+            if field=='ensures':
+                r=CL.get(cal)
+                if r is None:
+                    r=CL.get('*'+cal.split('::')[-1]); r=r[0] if r and len(r)==1 else None
+                if r and len(r[1])>1:
+                    pr=proj(idx,r[1])
+                    if pr is not None: return '.'.join([m.group(1),field]+pr)
+                return m.group(0)
+            ps=pars.get(cal)
+            if not ps: return m.group(0)
+            if idx[-1]=='0': k=len(idx)-1; rest=''
+            else: k=len(idx)
+            if set(idx[:-1])-{'1'} or k>=len(ps): return m.group(0)
+            fld={'last':'new','kept':'auto'}.get(field,field)
+            return m.group(1)+'.'+fld+'.'+ps[k]
+        t=re.sub(r"(?<![^\s(){}\[\],;←])("+NAME+r"(?:\."+NAME+r")?)\.(new|last|auto|kept|ensures)((?:\.[01])+)(?!\w)",f,t)
+        def g(m): return '(ap not '+m.group(0)+')'
+        t=re.sub(r"(?<![^\s(){}\[\],;←])c\.if-not-"+NAME+r"\.(?:true|false)",g,t)
+        return t
+    ans=[(a,deep(tidy(b)),n) for a,b,n in ans]
     # spec args by position: inline answers
     if spec:
         sm=re.search(r"tie\.spec(.*)\)\s*$",spec,re.S)

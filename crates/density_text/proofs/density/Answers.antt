@@ -10,16 +10,16 @@ use Rattle.panel_file.specs.PanelFile.{panel_count}
 use Rattle.density_text.specs.Text.{nodal_values}
 use Rattle.density_text.proofs.Inputs.{few_nodes, few_panels, holds, values-there, indices_below, corners-below, value_at}
 use Rattle.density_text.proofs.density.Goals as goal
-use Rattle.density_text.proofs.density.Tie as tie
-
-in-file : (c : tie.Start) → c.args.i < panel_count c.args.bytes.now
-in-file c = omega (arith, c.requires.0.panels, c.requires.1)
 
 pub triangle_nodes-t-requires : goal.triangle_nodes-t-requires
-triangle_nodes-t-requires c = (holds _ _ _ c.requires.0, in-file c, indices_below _ _ _ c.requires.0 c.args.i c.requires.1)
+triangle_nodes-t-requires c =
+    let in-file : c.args.i < panel_count c.args.bytes.now = omega (arith, c.requires.0.panels, c.requires.1) in
+    (holds _ _ _ c.requires.0, in-file, indices_below _ _ _ c.requires.0 c.args.i c.requires.1)
 
 pub triangle_indices-k-requires : goal.triangle_indices-k-requires
-triangle_indices-k-requires c = (holds _ _ _ c.requires.0, in-file c)
+triangle_indices-k-requires c =
+    let in-file : c.args.i < panel_count c.args.bytes.now = omega (arith, c.requires.0.panels, c.requires.1) in
+    (holds _ _ _ c.requires.0, in-file)
 
 pub nodal_value-a-requires : goal.nodal_value-a-requires
 nodal_value-a-requires c =

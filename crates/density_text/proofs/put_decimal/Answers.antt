@@ -8,16 +8,13 @@ use Rattle.lists.specs.Putting.{Put}
 use Rattle.density_text.specs.Text.{decimal}
 use Rattle.density_text.proofs.Numerals.{decimal_is, decimal_short}
 use Rattle.density_text.proofs.put_decimal.Goals as goal
-use Rattle.density_text.proofs.put_decimal.Tie as tie
-
--- what `io` writes is the number in decimal
-spelled : (c : tie.After-decimal-k) → take c.decimal-k.result c.decimal-k.new.1.0 ≡ decimal c.args.n
-spelled c = c.decimal-k.ensures.1.1 ∙ decimal_is c.args.n c.decimal-k.result c.requires.0 c.decimal-k.ensures.1.0
 
 pub put-requires : goal.put-requires
 put-requires c =
-    omega (arith, ap length (spelled c), decimal_short c.args.n, c.requires.1)
+    let spelled : take c.decimal-k.result c.decimal-k.new.out ≡ decimal c.args.n = c.decimal-k.ensures.1.1 ∙ decimal_is c.args.n c.decimal-k.result c.requires.0 c.decimal-k.ensures.1.0 in
+    omega (arith, ap length spelled, decimal_short c.args.n, c.requires.1)
 
 pub returns : goal.returns
 returns c =
-    subst (λ (t : List ℕ). Put c.args.out.now c.args.from t c.put.new.0 c.put.result) (spelled c) c.put.ensures
+    let spelled : take c.decimal-k.result c.decimal-k.new.out ≡ decimal c.args.n = c.decimal-k.ensures.1.1 ∙ decimal_is c.args.n c.decimal-k.result c.requires.0 c.decimal-k.ensures.1.0 in
+    subst (λ (t : List ℕ). Put c.args.out.now c.args.from t c.put.new.out c.put.result) spelled c.put.ensures

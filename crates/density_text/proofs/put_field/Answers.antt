@@ -11,22 +11,15 @@ use Rattle.density_text.specs.Text.{field}
 use Rattle.lists.proofs.Putting.{both}
 use Rattle.density_text.proofs.Numerals.{sixteen, digits-length}
 use Rattle.density_text.proofs.put_field.Goals as goal
-use Rattle.density_text.proofs.put_field.Tie as tie
-
--- what `io` writes is the sixteen digits
-spelled : (c : tie.After-hex-k) → take c.hex-k.result c.hex-k.new.1.1.0 ≡ last_digits 16 16 (canonical_bits c.args.x)
-spelled c =
-    let n = c.canonical_bits in
-    c.hex-k.ensures.1.1
-    ∙ ap (λ (k : ℕ). last_digits 16 k n.result) (sixteen n.result c.hex-k.result n.type-inv c.hex-k.ensures.1.0)
-    ∙ ap (λ (b : ℕ). last_digits 16 16 b) n.ensures
 
 pub put-requires : goal.put-requires
 put-requires c =
-    omega (arith, ap length (spelled c), digits-length 16 16 (canonical_bits c.args.x), c.put-to.ensures.behind, c.put-to.auto.0, c.requires)
+    let spelled : take c.hex-k.result c.hex-k.new.out ≡ last_digits 16 16 (canonical_bits c.args.x) = let n = c.canonical_bits in c.hex-k.ensures.1.1 ∙ ap (λ (k : ℕ). last_digits 16 k n.result) (sixteen n.result c.hex-k.result n.type_inv c.hex-k.ensures.1.0) ∙ ap (λ (b : ℕ). last_digits 16 16 b) n.ensures in
+    omega (arith, ap length spelled, digits-length 16 16 (canonical_bits c.args.x), c.put-to.ensures.behind, c.put-to.auto.out, c.requires)
 
 pub returns : goal.returns
 unfolding field
 returns c =
-    let second = subst (λ (t : List ℕ). Put c.put-to.new.0 c.put-to.result t c.put.new.0 c.put.result) (spelled c) c.put.ensures in
+    let spelled : take c.hex-k.result c.hex-k.new.out ≡ last_digits 16 16 (canonical_bits c.args.x) = let n = c.canonical_bits in c.hex-k.ensures.1.1 ∙ ap (λ (k : ℕ). last_digits 16 k n.result) (sixteen n.result c.hex-k.result n.type_inv c.hex-k.ensures.1.0) ∙ ap (λ (b : ℕ). last_digits 16 16 b) n.ensures in
+    let second = subst (λ (t : List ℕ). Put c.put-to.new.out c.put-to.result t c.put.new.out c.put.result) spelled c.put.ensures in
     both c.args.out.now c.args.from (32 ∷ []) _ _ _ _ _ (omega (arith, c.requires)) c.put-to.ensures second

@@ -45,7 +45,7 @@ returns c =
     let e = c.put_decimal-d in
     let f = c.put in
     both c.args.out.now 0 (80 ∷ 78 ∷ 76 ∷ 32 ∷ 49 ∷ 32 ∷ []) _ _ _ _ _ (omega (arith, c.requires, decimal_short c.args.n, decimal_short c.args.p)) a.ensures
-    (both a.new.0 a.result (decimal c.args.n) _ _ _ _ _ (omega (arith, c.requires, decimal_short c.args.n, decimal_short c.args.p)) b.ensures
-    (both b.new.0 b.result (32 ∷ []) _ _ _ _ _ (omega (arith, c.requires, decimal_short c.args.n, decimal_short c.args.p)) d.ensures
-    (both d.new.0 d.result (decimal c.args.p) _ _ _ _ _ (omega (arith, c.requires, decimal_short c.args.n, decimal_short c.args.p)) e.ensures
+    (both a.new.out a.result (decimal c.args.n) _ _ _ _ _ (omega (arith, c.requires, decimal_short c.args.n, decimal_short c.args.p)) b.ensures
+    (both b.new.out b.result (32 ∷ []) _ _ _ _ _ (omega (arith, c.requires, decimal_short c.args.n, decimal_short c.args.p)) d.ensures
+    (both d.new.out d.result (decimal c.args.p) _ _ _ _ _ (omega (arith, c.requires, decimal_short c.args.n, decimal_short c.args.p)) e.ensures
     f.ensures)))

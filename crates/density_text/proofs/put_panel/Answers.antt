@@ -15,9 +15,9 @@ returns c =
     let e = c.put_field-d in
     let f = c.put in
     both c.args.out.now c.args.from (decimal c.args.i) _ _ _ _ _ (omega (arith, c.requires, decimal_short c.args.i, field-length (at c.args.t4 0), field-length (at c.args.t4 1), field-length (at c.args.t4 2))) a.ensures
-    (both a.new.0 a.result (field (at c.args.t4 0)) _ _ _ _ _ (omega (arith, c.requires, decimal_short c.args.i, field-length (at c.args.t4 0), field-length (at c.args.t4 1), field-length (at c.args.t4 2))) b.ensures
-    (both b.new.0 b.result (field (at c.args.t4 1)) _ _ _ _ _ (omega (arith, c.requires, decimal_short c.args.i, field-length (at c.args.t4 0), field-length (at c.args.t4 1), field-length (at c.args.t4 2))) d.ensures
-    (both d.new.0 d.result (field (at c.args.t4 2)) _ _ _ _ _ (omega (arith, c.requires, decimal_short c.args.i, field-length (at c.args.t4 0), field-length (at c.args.t4 1), field-length (at c.args.t4 2))) e.ensures
+    (both a.new.out a.result (field (at c.args.t4 0)) _ _ _ _ _ (omega (arith, c.requires, decimal_short c.args.i, field-length (at c.args.t4 0), field-length (at c.args.t4 1), field-length (at c.args.t4 2))) b.ensures
+    (both b.new.out b.result (field (at c.args.t4 1)) _ _ _ _ _ (omega (arith, c.requires, decimal_short c.args.i, field-length (at c.args.t4 0), field-length (at c.args.t4 1), field-length (at c.args.t4 2))) d.ensures
+    (both d.new.out d.result (field (at c.args.t4 2)) _ _ _ _ _ (omega (arith, c.requires, decimal_short c.args.i, field-length (at c.args.t4 0), field-length (at c.args.t4 1), field-length (at c.args.t4 2))) e.ensures
     f.ensures)))
 
 pub put_field-b-requires : goal.put_field-b-requires

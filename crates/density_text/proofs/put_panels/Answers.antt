@@ -28,9 +28,9 @@ loop-i-preserved c =
     let l = c.loop-i in
     let b = c.args.bytes.now in
     let h : l.i < c.args.p = omega (arith, c.loop-i-test.true) in
-    let one = subst (λ (j : List Float). Put l.out l.to (line l.i j) c.put_panel-to.new.0 c.put_panel-to.result) c.density.ensures c.put_panel-to.ensures in
+    let one = subst (λ (j : List Float). Put l.out l.to (line l.i j) c.put_panel-to.new.out c.put_panel-to.result) c.density.ensures c.put_panel-to.ensures in
     let two = both c.args.out.now c.args.from (rows_from (panel_line b) 0 l.i) l.out l.to (panel_line b l.i) _ _ (omega (arith, h, c.requires.2, short b l.i)) l.invariant.2 one in
-    (omega (arith, h), c.put_panel-to.auto.0 ∙ l.invariant.1, subst (λ (t : List ℕ). Put c.args.out.now c.args.from t c.put_panel-to.new.0 c.put_panel-to.result) (more_rows (panel_line b) l.i) two)
+    (omega (arith, h), c.put_panel-to.auto.out ∙ l.invariant.1, subst (λ (t : List ℕ). Put c.args.out.now c.args.from t c.put_panel-to.new.out c.put_panel-to.result) (more_rows (panel_line b) l.i) two)
 
 pub shape_of-out : goal.shape_of-out
 shape_of-out c = c.loop-i.invariant.1

@@ -28,5 +28,5 @@ returns c =
     let b = c.put_decimal-b in
     let d = c.put in
     both c.args.out.now 0 (114 ∷ 101 ∷ 102 ∷ 117 ∷ 115 ∷ 101 ∷ 100 ∷ 32 ∷ []) _ _ _ _ _ (omega (arith, c.requires, decimal_short c.args.refusal)) a.ensures
-    (both a.new.0 a.result (decimal c.args.refusal) _ _ _ _ _ (omega (arith, c.requires, decimal_short c.args.refusal)) b.ensures
+    (both a.new.out a.result (decimal c.args.refusal) _ _ _ _ _ (omega (arith, c.requires, decimal_short c.args.refusal)) b.ensures
     d.ensures)

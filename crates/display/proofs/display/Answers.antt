@@ -12,50 +12,51 @@ use Rattle.ieee754.proofs.Signs.{no_nan}
 use Rattle.display.specs.Display as Spec
 use Rattle.display.proofs.Range.{SizeIs, Pattern, from-pattern, too_large_lem, too_small, pattern, number_of_size, not_a_number, refused, accepted, no_sign}
 use Rattle.display.proofs.display.Goals as goal
-use Rattle.display.proofs.display.Tie as tie
-
--- what owning an `f64` tells: the format holds it
-held : (c : tie.Start) → T (fits binary64 c.args.x)
-held c = subst T (sym c.well_formed.0.1) tt
-
-is_number : (c : tie.Else-is_nan) → is_nan c.args.x ≡ false
-is_number c = sym c.is_nan.ensures ∙ c.if-is_nan.false
-
-known : (c : tie.After-abs-b) → Pattern c.args.x (to_bits binary64 c.abs-b.result)
-known c = pattern _ _ c.abs-b.ensures (held c) (is_number c)
 
 -- the size that the pattern's significand and exponent give
 abbrev size_of : ℕ → ℕ
 size_of b = Spec.nanohenries (significand_of b * 2 ^ exponent_of b) (2 ^ 1074)
 
-sized : (c : tie.Else-b-ge-TOO_LARGE) → SizeIs c.args.x (size_of (to_bits binary64 c.abs-b.result))
-sized c = from-pattern _ _ (known c).stands (omega arith)
-
-computed : (c : tie.After-nanohenries-size) → SizeIs c.args.x c.nanohenries-size.result
-computed c =
-    let e = c.nanohenries-size.ensures ∙ (λ i. Spec.nanohenries (c.significand.ensures.value i * 2 ^ c.exponent.ensures i) (2 ^ 1074)) in
-    subst (λ (n : ℕ). SizeIs c.args.x n) (sym e) (sized c)
-
 pub returns-then-is_nan : goal.returns-then-is_nan
 returns-then-is_nan c = refused c.args.x (not_a_number c.args.x (sym c.is_nan.ensures ∙ c.if-is_nan.true))
 
 pub float_to_bits-b : goal.float_to_bits-b
-float_to_bits-b c = no_nan _ (number_of_size c.args.x _ c.abs-b.ensures (is_number c))
+float_to_bits-b c =
+    let is_number : is_nan c.args.x ≡ false = sym c.is_nan.ensures ∙ c.if-is_nan.false in
+    no_nan _ (number_of_size c.args.x _ c.abs-b.ensures is_number)
 
 pub returns-then-b-ge-TOO_LARGE : goal.returns-then-b-ge-TOO_LARGE
 returns-then-b-ge-TOO_LARGE c =
-    let k = known c in
+    let held : T (fits binary64 c.args.x) = subst T (sym c.well_formed.0.1) tt in
+    let is_number : is_nan c.args.x ≡ false = sym c.is_nan.ensures ∙ c.if-is_nan.false in
+    let known : Pattern c.args.x (to_bits binary64 c.abs-b.result) = pattern _ _ c.abs-b.ensures held is_number in
+    let k = known in
     refused _ (too_large_lem _ _ k.positive k.stands (omega arith))
 
 pub returns-then-b-lt-TOO_SMALL : goal.returns-then-b-lt-TOO_SMALL
 returns-then-b-lt-TOO_SMALL c =
+    let held : T (fits binary64 c.args.x) = subst T (sym c.well_formed.0.1) tt in
+    let is_number : is_nan c.args.x ≡ false = sym c.is_nan.ensures ∙ c.if-is_nan.false in
+    let known : Pattern c.args.x (to_bits binary64 c.abs-b.result) = pattern _ _ c.abs-b.ensures held is_number in
+    let sized : SizeIs c.args.x (size_of (to_bits binary64 c.abs-b.result)) = from-pattern _ _ known.stands (omega arith) in
     let b = to_bits binary64 c.abs-b.result in
-    accepted _ 0 _ (subst (λ (n : ℕ). SizeIs c.args.x n) (too_small b (omega arith)) (sized c)) (omega arith) (no_sign _)
+    accepted _ 0 _ (subst (λ (n : ℕ). SizeIs c.args.x n) (too_small b (omega arith)) sized) (omega arith) (no_sign _)
 
 pub returns-then-size-gt-LARGEST : goal.returns-then-size-gt-LARGEST
-returns-then-size-gt-LARGEST c = refused _ ((computed c).range ∙ lt-ltb _ _ c.if-size-gt-LARGEST.true)
+returns-then-size-gt-LARGEST c =
+    let held : T (fits binary64 c.args.x) = subst T (sym c.well_formed.0.1) tt in
+    let is_number : is_nan c.args.x ≡ false = sym c.is_nan.ensures ∙ c.if-is_nan.false in
+    let known : Pattern c.args.x (to_bits binary64 c.abs-b.result) = pattern _ _ c.abs-b.ensures held is_number in
+    let sized : SizeIs c.args.x (size_of (to_bits binary64 c.abs-b.result)) = from-pattern _ _ known.stands (omega arith) in
+    let computed : SizeIs c.args.x c.nanohenries-size.result = let e = c.nanohenries-size.ensures ∙ (λ i. Spec.nanohenries (c.significand.ensures.value i * 2 ^ c.exponent.ensures i) (2 ^ 1074)) in subst (λ (n : ℕ). SizeIs c.args.x n) (sym e) sized in
+    refused _ (computed.range ∙ lt-ltb _ _ c.if-size-gt-LARGEST.true)
 
 pub returns : goal.returns
 returns c =
-    accepted _ c.nanohenries-size.result _ (computed c) (omega arith)
-    (to_z-of_z (record { sfits = c.with_sign.type-inv }) ∙ c.with_sign.ensures ∙ ap (λ s. Spec.with_sign s c.nanohenries-size.result) c.is_sign_negative.ensures)
+    let held : T (fits binary64 c.args.x) = subst T (sym c.well_formed.0.1) tt in
+    let is_number : is_nan c.args.x ≡ false = sym c.is_nan.ensures ∙ c.if-is_nan.false in
+    let known : Pattern c.args.x (to_bits binary64 c.abs-b.result) = pattern _ _ c.abs-b.ensures held is_number in
+    let sized : SizeIs c.args.x (size_of (to_bits binary64 c.abs-b.result)) = from-pattern _ _ known.stands (omega arith) in
+    let computed : SizeIs c.args.x c.nanohenries-size.result = let e = c.nanohenries-size.ensures ∙ (λ i. Spec.nanohenries (c.significand.ensures.value i * 2 ^ c.exponent.ensures i) (2 ^ 1074)) in subst (λ (n : ℕ). SizeIs c.args.x n) (sym e) sized in
+    accepted _ c.nanohenries-size.result _ computed (omega arith)
+    (to_z-of_z (record { sfits = c.with_sign.type_inv }) ∙ c.with_sign.ensures ∙ ap (λ s. Spec.with_sign s c.nanohenries-size.result) c.is_sign_negative.ensures)

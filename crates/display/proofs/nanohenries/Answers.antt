@@ -26,41 +26,37 @@ in_word p lo hi =
     let k : 1043 - p ≤ 63 = omega arith in
     rw (power p lo hi) (pow_pos (1043 - p), pow_mono k)
 
-divisor : (c : tie.After-in_units-num) → (0 < den c.args.p) × (den c.args.p ≤ 2 ^ 63)
-divisor c = in_word c.args.p c.requires.1 c.requires.2
-
--- what is left over, and so twice of it and one more, fits a word
-left_over : (c : tie.After-in_units-num) → c.in_units-num.result % den c.args.p < 2 ^ 63
-left_over c = lt_of_lt_of_le (mod-lt c.in_units-num.result (divisor c).0) (divisor c).1
-
--- the quotient that the code rounds is the definition's
-quotient : (c : tie.After-in_units-num)
-    → closest c.in_units-num.result (den c.args.p) ≡ Spec.nanohenries (c.args.t * 2 ^ c.args.p) (2 ^ 1074)
-quotient c =
-    let p = c.args.p in
-    let units = c.in_units-num in
-    ap (λ (x : ℕ). closest units.result x) (power p c.requires.1 c.requires.2)
-    ∙ from-units c.args.t p units.result c.requires.1 c.requires.2 units.ensures.0
-
 -- UNPLACED
 rem-if1 : tie.Need-nonzero-rem-if1
 rem-if1 c = (divisor c).0
 
 pub nonzero_div-q : goal.nonzero_div-q
-nonzero_div-q c = (divisor c).0
+nonzero_div-q c =
+    let divisor : (0 < den c.args.p) × (den c.args.p ≤ 2 ^ 63) = in_word c.args.p c.requires.1 c.requires.2 in
+    divisor.0
 
 pub overflow_mul-num : goal.overflow_mul-num
-overflow_mul-num c = omega (arith, left_over c)
+overflow_mul-num c =
+    let divisor : (0 < den c.args.p) × (den c.args.p ≤ 2 ^ 63) = in_word c.args.p c.requires.1 c.requires.2 in
+    let left_over : c.in_units-num.result % den c.args.p < 2 ^ 63 = lt_of_lt_of_le (mod-lt c.in_units-num.result divisor.0) divisor.1 in
+    omega (arith, left_over)
 
 pub overflow_add-num : goal.overflow_add-num
-overflow_add-num c = omega (arith, left_over c)
+overflow_add-num c =
+    let divisor : (0 < den c.args.p) × (den c.args.p ≤ 2 ^ 63) = in_word c.args.p c.requires.1 c.requires.2 in
+    let left_over : c.in_units-num.result % den c.args.p < 2 ^ 63 = lt_of_lt_of_le (mod-lt c.in_units-num.result divisor.0) divisor.1 in
+    omega (arith, left_over)
 
 pub overflow_add-result : goal.overflow_add-result
 overflow_add-result c =
     omega (arith, div-le_self c.in_units-num.result (den c.args.p), c.in_units-num.ensures.upper_bound)
 
 pub returns-then-den-num : goal.returns-then-den-num
-returns-then-den-num c = add-one _ ∙ sym (closest_next _ _ c.if-den-num.true) ∙ quotient c
+returns-then-den-num c =
+    let quotient : closest c.in_units-num.result (den c.args.p) ≡ Spec.nanohenries (c.args.t * 2 ^ c.args.p) (2 ^ 1074) = let p = c.args.p in let units = c.in_units-num in ap (λ (x : ℕ). closest units.result x) (power p c.requires.1 c.requires.2) ∙ from-units c.args.t p units.result c.requires.1 c.requires.2 units.ensures.jam in
+    add-one _ ∙ sym (closest_next _ _ c.if-den-num.true) ∙ quotient
 
 pub returns-else-den-num : goal.returns-else-den-num
-returns-else-den-num c = sym (closest_stays _ _ c.if-den-num.false) ∙ quotient c
+returns-else-den-num c =
+    let quotient : closest c.in_units-num.result (den c.args.p) ≡ Spec.nanohenries (c.args.t * 2 ^ c.args.p) (2 ^ 1074) = let p = c.args.p in let units = c.in_units-num in ap (λ (x : ℕ). closest units.result x) (power p c.requires.1 c.requires.2) ∙ from-units c.args.t p units.result c.requires.1 c.requires.2 units.ensures.jam in
+    sym (closest_stays _ _ c.if-den-num.false) ∙ quotient

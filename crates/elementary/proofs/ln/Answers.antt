@@ -8,11 +8,6 @@ use Rattle.elementary.specs.Elementary as Spec
 use Rattle.ieee754.proofs.Signs.{no_nan}
 use Rattle.elementary.proofs.Finite.{above_zero, under_infinity}
 use Rattle.elementary.proofs.ln.Goals as goal
-use Rattle.elementary.proofs.ln.Tie as tie
-
--- what owning an `f64` tells: the format holds it
-held : (c : tie.Start) → T (fits binary64 c.args.x)
-held c = subst T (sym c.well_formed.0.1) tt
 
 pub returns-then-is_nan : goal.returns-then-is_nan
 unfolding Spec.ln
@@ -39,13 +34,15 @@ float_to_bits-x c =
 
 pub ln_of_bits-requires : goal.ln_of_bits-requires
 ln_of_bits-requires c =
+    let held : T (fits binary64 c.args.x) = subst T (sym c.well_formed.0.1) tt in
     let x = c.args.x in
     let n = sym c.is_nan.ensures ∙ c.if-is_nan.false in
     let i : eq x (inf false) ≡ false = ap (λ (y : Float). eq x y) (sym c.infinity-infinity.ensures) ∙ c.if-x-infinity.false in
-    (above_zero x (held c) n c.if-x.false c.if-x-2.false i, under_infinity x (held c) n c.if-x.false c.if-x-2.false i)
+    (above_zero x held n c.if-x.false c.if-x-2.false i, under_infinity x held n c.if-x.false c.if-x-2.false i)
 
 pub returns : goal.returns
 unfolding Spec.ln
 returns c =
-    let e = c.ln_of_bits.ensures ∙ ap (λ (y : Float). Spec.ln_reduced (Spec.mantissa y) (Spec.exponent y)) (of_bits-to_bits binary64 c.args.x (held c)) in
+    let held : T (fits binary64 c.args.x) = subst T (sym c.well_formed.0.1) tt in
+    let e = c.ln_of_bits.ensures ∙ ap (λ (y : Float). Spec.ln_reduced (Spec.mantissa y) (Spec.exponent y)) (of_bits-to_bits binary64 c.args.x held) in
     rw (← c.is_nan.ensures, c.if-is_nan.false, c.if-x.false, c.if-x-2.false, ← c.infinity-infinity.ensures, c.if-x-infinity.false) e

@@ -6,20 +6,16 @@ use lib.Ieee.{binary64, of_bits}
 use Rattle.binary64.proofs.Pattern.{no_nan}
 use Rattle.elementary.proofs.Parts.{Parts, pattern_parts, ln_halved, ln_kept}
 use Rattle.elementary.proofs.ln_of_bits.Goals as goal
-use Rattle.elementary.proofs.ln_of_bits.Tie as tie
-
--- m and e, as the code has them
-parts : (c : tie.After-exponent) → Parts (of_bits binary64 c.args.b) (c.significand-t.result * 2 ^ c.shift-z.result) (c.exponent.result + 52 - c.shift-z.result)
-parts c =
-    let d = c.significand-t in
-    let h = c.shift-z in
-    pattern_parts c.args.b d.result c.exponent.result h.result c.requires.1 d.ensures.0 c.exponent.ensures h.ensures.1.0 h.ensures.1.1 h.ensures.0
 
 pub float_from_bits-m : goal.float_from_bits-m
 float_from_bits-m c = no_nan _ (omega arith)
 
 pub returns-then-m : goal.returns-then-m
-returns-then-m c = rw (c.ln_at.ensures, c.float_exponent.ensures) (sym (ln_halved _ _ _ (parts c) c.if-m.true))
+returns-then-m c =
+    let parts : Parts (of_bits binary64 c.args.b) (c.significand-t.result * 2 ^ c.shift-z.result) (c.exponent.result + 52 - c.shift-z.result) = let d = c.significand-t in let h = c.shift-z in pattern_parts c.args.b d.result c.exponent.result h.result c.requires.1 d.ensures.value c.exponent.ensures h.ensures.trailing_bound.0 h.ensures.trailing_bound.1 h.ensures.upper_bound in
+    rw (c.ln_at.ensures, c.float_exponent.ensures) (sym (ln_halved _ _ _ parts c.if-m.true))
 
 pub returns : goal.returns
-returns c = rw (c.ln_at-2.ensures, c.float_exponent-2.ensures) (sym (ln_kept _ _ _ (parts c) c.if-m.false))
+returns c =
+    let parts : Parts (of_bits binary64 c.args.b) (c.significand-t.result * 2 ^ c.shift-z.result) (c.exponent.result + 52 - c.shift-z.result) = let d = c.significand-t in let h = c.shift-z in pattern_parts c.args.b d.result c.exponent.result h.result c.requires.1 d.ensures.value c.exponent.ensures h.ensures.trailing_bound.0 h.ensures.trailing_bound.1 h.ensures.upper_bound in
+    rw (c.ln_at-2.ensures, c.float_exponent-2.ensures) (sym (ln_kept _ _ _ parts c.if-m.false))

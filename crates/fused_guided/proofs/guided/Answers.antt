@@ -4,16 +4,6 @@ use borrow.Author.Tests.{not-false}
 use lib.Ieee.{binary64, fits}
 use Rattle.fused_guided.proofs.Laws.Guided.{found_number, found_fma}
 use Rattle.fused_guided.proofs.guided.Goals as goal
-use Rattle.fused_guided.proofs.guided.Tie as tie
-
-held_x : (c : tie.Start) → T (fits binary64 c.args.x)
-held_x c = subst T (sym c.well_formed.0.1) tt
-
-held-y : (c : tie.Start) → T (fits binary64 c.args.y)
-held-y c = subst T (sym c.well_formed.1.0.1) tt
-
-held-z : (c : tie.Start) → T (fits binary64 c.args.z)
-held-z c = subst T (sym c.well_formed.1.1.0.1) tt
 
 pub float_to_bits-x : goal.float_to_bits-x
 float_to_bits-x c = c.requires.t
@@ -36,10 +26,13 @@ returns-then-not-a c = c.unguided.ensures
 pub float_from_bits-result : goal.float_from_bits-result
 float_from_bits-result c =
     let a = c.guided_bits-a in
-    found_number c.args.x c.args.y c.args.z a.result.sig (a.ensures.1 (not-false a.result.ok c.if-not-a.false))
+    found_number c.args.x c.args.y c.args.z a.result.sig (a.ensures.1 (not-false a.result.ok (ap not c.if-not-a.false)))
 
 pub returns : goal.returns
 returns c =
+    let held_x : T (fits binary64 c.args.x) = subst T (sym c.well_formed.0.1) tt in
+    let held-y : T (fits binary64 c.args.y) = subst T (sym c.well_formed.1.0.1) tt in
+    let held-z : T (fits binary64 c.args.z) = subst T (sym c.well_formed.1.1.0.1) tt in
     let a = c.guided_bits-a in
-    found_fma c.args.x c.args.y c.args.z a.result.sig (held_x c) (held-y c) (held-z c)
-    (a.ensures.1 (not-false a.result.ok c.if-not-a.false))
+    found_fma c.args.x c.args.y c.args.z a.result.sig held_x held-y held-z
+    (a.ensures.1 (not-false a.result.ok (ap not c.if-not-a.false)))

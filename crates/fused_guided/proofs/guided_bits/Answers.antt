@@ -10,28 +10,6 @@ use Rattle.fused_guided.proofs.Laws.Terms.{significand-lt, field_lt}
 use Rattle.fused_guided.proofs.Laws.Guided.{bits_law, exact_of, guided_is, guided_no, guided_sig, sig_le, exponent-some, exponent-room}
 use Rattle.binary64.specs.Format.{infinity_bits}
 use Rattle.fused_guided.proofs.guided_bits.Goals as goal
-use Rattle.fused_guided.proofs.guided_bits.Tie as tie
-
-usable-there : (c : tie.Else-not-usable) → usable c.field-ex.result
-    c.field-ey.result
-    c.wrapping_sub_u64-k.result c.wrapping_sub_u64-s.result ≡ true
-usable-there c = sym c.usable.ensures ∙ not-false c.usable.result c.if-not-usable.false
-
-ok-there : (c : tie.Else-not-usable) → Reach 1 c.field-ex.result
-    c.field-ey.result
-    c.wrapping_sub_u64-k.result c.wrapping_sub_u64-s.result
-ok-there c =
-    reach_is 1 c.field-ex.result c.field-ey.result c.wrapping_sub_u64-k.result c.wrapping_sub_u64-s.result (usable-there c)
-
-room-there : (c : tie.After-struct_known-1)
-    → (c.field-et.result - 1) * 2 ^ 52 + c.guided_sum-g.result.sig ≤ infinity_bits
-room-there c =
-    exponent-room c.field-ex.result c.field-ey.result c.wrapping_sub_u64-k.result c.wrapping_sub_u64-s.result c.field-et.result c.args.bt
-    (ok-there c) c.field-et.ensures c.wrapping_sub_u64-s.ensures c.guided_sum-g.result.sig
-    (sig_le c.guided_sum-g.result.ok
-    (signed_sum c.opposite.result (c.normal_significand.result * c.normal_significand-2.result) c.opposite-2.result
-    (c.normal_significand-3.result * 2 ^ c.wrapping_sub_u64-k.result))
-    c.wrapping_sub_u64-s.result c.guided_sum-g.result.sig c.guided_sum-g.ensures.0 c.guided_sum-g.ensures.1)
 
 pub returns-then-not-usable : goal.returns-then-not-usable
 returns-then-not-usable c =
@@ -44,27 +22,61 @@ returns-then-not-usable c =
           (guided_no c.args.bx c.args.by c.args.bz c.args.bt c.field-ex.result c.field-ey.result c.field-ez.result
           c.field-et.result
           k.result s.result c.field-ex.ensures c.field-ey.ensures c.field-ez.ensures c.field-et.ensures kb sb k.ensures
-          s.ensures (sym c.usable.ensures ∙ not-true c.usable.result c.if-not-usable.true)),
+          s.ensures (sym c.usable.ensures ∙ not-true c.usable.result (ap not c.if-not-usable.true))),
       λ e. absurd (false≢true (sym c.refused.ensures.0 ∙ e)),
     )
 
 pub guided_sum-g-requires : goal.guided_sum-g-requires
 guided_sum-g-requires c =
-    let ok = ok-there c in record { u_bound = (significand-lt c.args.bx c.normal_significand.result c.normal_significand.ensures, significand-lt c.args.by c.normal_significand-2.result c.normal_significand-2.ensures); w_bound = (significand-lt c.args.bz c.normal_significand-3.result c.normal_significand-3.ensures, ok.near_z); le_s = (ok.some, ok.near_t) }
+    let usable-there : usable c.field-ex.result
+    c.field-ey.result
+    c.wrapping_sub_u64-k.result c.wrapping_sub_u64-s.result ≡ true = sym c.usable.ensures ∙ not-false c.usable.result (ap not c.if-not-usable.false) in
+    let ok-there : Reach 1 c.field-ex.result
+    c.field-ey.result
+    c.wrapping_sub_u64-k.result c.wrapping_sub_u64-s.result = reach_is 1 c.field-ex.result c.field-ey.result c.wrapping_sub_u64-k.result c.wrapping_sub_u64-s.result usable-there in
+    let ok = ok-there in record { u_bound = (significand-lt c.args.bx c.normal_significand.result c.normal_significand.ensures, significand-lt c.args.by c.normal_significand-2.result c.normal_significand-2.ensures); w_bound = (significand-lt c.args.bz c.normal_significand-3.result c.normal_significand-3.ensures, ok.near_z); le_s = (ok.some, ok.near_t) }
 
 pub overflow_sub-et : goal.overflow_sub-et
 overflow_sub-et c =
+    let usable-there : usable c.field-ex.result
+    c.field-ey.result
+    c.wrapping_sub_u64-k.result c.wrapping_sub_u64-s.result ≡ true = sym c.usable.ensures ∙ not-false c.usable.result (ap not c.if-not-usable.false) in
+    let ok-there : Reach 1 c.field-ex.result
+    c.field-ey.result
+    c.wrapping_sub_u64-k.result c.wrapping_sub_u64-s.result = reach_is 1 c.field-ex.result c.field-ey.result c.wrapping_sub_u64-k.result c.wrapping_sub_u64-s.result usable-there in
     exponent-some c.field-ex.result c.field-ey.result c.wrapping_sub_u64-k.result c.wrapping_sub_u64-s.result c.field-et.result c.args.bt
-    (ok-there c) c.field-et.ensures c.wrapping_sub_u64-s.ensures
+    ok-there c.field-et.ensures c.wrapping_sub_u64-s.ensures
 
 pub overflow_add-et-2 : goal.overflow_add-et-2
-overflow_add-et-2 c = Fits-below tt (room-there c)
+overflow_add-et-2 c =
+    let usable-there : usable c.field-ex.result
+    c.field-ey.result
+    c.wrapping_sub_u64-k.result c.wrapping_sub_u64-s.result ≡ true = sym c.usable.ensures ∙ not-false c.usable.result (ap not c.if-not-usable.false) in
+    let ok-there : Reach 1 c.field-ex.result
+    c.field-ey.result
+    c.wrapping_sub_u64-k.result c.wrapping_sub_u64-s.result = reach_is 1 c.field-ex.result c.field-ey.result c.wrapping_sub_u64-k.result c.wrapping_sub_u64-s.result usable-there in
+    let room-there : (c.field-et.result - 1) * 2 ^ 52 + c.guided_sum-g.result.sig ≤ infinity_bits = exponent-room c.field-ex.result c.field-ey.result c.wrapping_sub_u64-k.result c.wrapping_sub_u64-s.result c.field-et.result c.args.bt ok-there c.field-et.ensures c.wrapping_sub_u64-s.ensures c.guided_sum-g.result.sig (sig_le c.guided_sum-g.result.ok (signed_sum c.opposite.result (c.normal_significand.result * c.normal_significand-2.result) c.opposite-2.result (c.normal_significand-3.result * 2 ^ c.wrapping_sub_u64-k.result)) c.wrapping_sub_u64-s.result c.guided_sum-g.result.sig c.guided_sum-g.ensures.0 c.guided_sum-g.ensures.1) in
+    Fits-below tt room-there
 
 pub signed-requires : goal.signed-requires
-signed-requires c = room-there c
+signed-requires c =
+    let usable-there : usable c.field-ex.result
+    c.field-ey.result
+    c.wrapping_sub_u64-k.result c.wrapping_sub_u64-s.result ≡ true = sym c.usable.ensures ∙ not-false c.usable.result (ap not c.if-not-usable.false) in
+    let ok-there : Reach 1 c.field-ex.result
+    c.field-ey.result
+    c.wrapping_sub_u64-k.result c.wrapping_sub_u64-s.result = reach_is 1 c.field-ex.result c.field-ey.result c.wrapping_sub_u64-k.result c.wrapping_sub_u64-s.result usable-there in
+    let room-there : (c.field-et.result - 1) * 2 ^ 52 + c.guided_sum-g.result.sig ≤ infinity_bits = exponent-room c.field-ex.result c.field-ey.result c.wrapping_sub_u64-k.result c.wrapping_sub_u64-s.result c.field-et.result c.args.bt ok-there c.field-et.ensures c.wrapping_sub_u64-s.ensures c.guided_sum-g.result.sig (sig_le c.guided_sum-g.result.ok (signed_sum c.opposite.result (c.normal_significand.result * c.normal_significand-2.result) c.opposite-2.result (c.normal_significand-3.result * 2 ^ c.wrapping_sub_u64-k.result)) c.wrapping_sub_u64-s.result c.guided_sum-g.result.sig c.guided_sum-g.ensures.0 c.guided_sum-g.ensures.1) in
+    room-there
 
 pub returns : goal.returns
 returns c =
+    let usable-there : usable c.field-ex.result
+    c.field-ey.result
+    c.wrapping_sub_u64-k.result c.wrapping_sub_u64-s.result ≡ true = sym c.usable.ensures ∙ not-false c.usable.result (ap not c.if-not-usable.false) in
+    let ok-there : Reach 1 c.field-ex.result
+    c.field-ey.result
+    c.wrapping_sub_u64-k.result c.wrapping_sub_u64-s.result = reach_is 1 c.field-ex.result c.field-ey.result c.wrapping_sub_u64-k.result c.wrapping_sub_u64-s.result usable-there in
     let k = c.wrapping_sub_u64-k in
     let s = c.wrapping_sub_u64-s in
     let kb : k.result < 2 ^ 64 = omega arith in
@@ -82,7 +94,7 @@ returns c =
     let g = c.guided_sum-g in
     let x = signed_sum cp.result (u.result * v.result) cz.result (w.result * 2 ^ k.result) in (
       g.ensures.0
-          ∙ ap (λ (b : Bool). b && leads x s.result) (sym (usable-there c))
+          ∙ ap (λ (b : Bool). b && leads x s.result) (sym usable-there)
           ∙ guided_is nx.result ny.result nz.result nt.result np.result cp.result cz.result c.args.bx c.args.by
           c.args.bz c.args.bt
           c.field-ex.result c.field-ey.result c.field-ez.result c.field-et.result k.result s.result u.result v.result w.result
@@ -94,7 +106,7 @@ returns c =
           g.result.sig
           c.signed.result c.field-ex.ensures c.field-ey.ensures c.field-ez.ensures
           (field_lt c.args.bt c.field-et.result c.field-et.ensures)
-          k.ensures s.ensures (ok-there c) u.ensures v.ensures w.ensures nx.ensures ny.ensures nz.ensures np.ensures
+          k.ensures s.ensures ok-there u.ensures v.ensures w.ensures nx.ensures ny.ensures nz.ensures np.ensures
           cp.ensures cz.ensures
           (exact_of cp.result cz.result (u.result * v.result) (w.result * 2 ^ k.result) s.result g.result.sig (sym g.ensures.0 ∙ found)
           (guided_sig g.result.ok x s.result g.result.sig found g.ensures.1))

@@ -4,24 +4,12 @@ use Rattle.std.proofs.Common.{◌≡◌, ℕ, ◌+◌, ◌-◌, ◌*◌, ◌/◌
 use Rattle.fused_guided.specs.Guided.{signed_sum, SignedWords, rounded_significand}
 use Rattle.fused_guided.proofs.Laws.Guided.{product_high, shift_small, below_pow, sum-high, sum_other, sum-leads, sum_near}
 use Rattle.fused_guided.proofs.guided_sum.Goals as goal
-use Rattle.fused_guided.proofs.guided_sum.Tie as tie
 
 -- the two terms, for the words that hold them
 terms : (cp cz : Bool) (p z ph pl zh zl dh dl : ℕ) → ph * 2 ^ 64 + pl ≡ p → zh * 2 ^ 64 + zl ≡ z
     → SignedWords cp (ph * 2 ^ 64 + pl) cz (zh * 2 ^ 64 + zl) dh dl → SignedWords cp p cz z dh dl
 terms cp cz p z ph pl zh zl dh dl P Z w =
     subst (λ (y : ℕ). SignedWords cp y cz z dh dl) P (subst (λ (y : ℕ). SignedWords cp (ph * 2 ^ 64 + pl) cz y dh dl) Z w)
-
--- what the sum's two words are, where they stand
-words : (c : tie.After-signed_sum-d)
-    → SignedWords c.args.cp (c.args.u * c.args.v)
-    c.args.cz
-    (c.args.w * 2 ^ c.args.k) c.signed_sum-d.result.hi c.signed_sum-d.result.lo
-words c =
-    let z = c.shift_word-z in
-    let p = c.product-p in
-    terms c.args.cp c.args.cz (c.args.u * c.args.v) (c.args.w * 2 ^ c.args.k) p.result.hi p.result.lo z.result.hi z.result.lo
-    c.signed_sum-d.result.hi c.signed_sum-d.result.lo p.ensures z.ensures c.signed_sum-d.ensures
 
 pub signed_sum-d-requires : goal.signed_sum-d-requires
 signed_sum-d-requires c =
@@ -37,8 +25,11 @@ shift_more-x-requires c =
 
 pub returns-then-d-s-ne0 : goal.returns-then-d-s-ne0
 returns-then-d-s-ne0 c =
+    let words : SignedWords c.args.cp (c.args.u * c.args.v)
+    c.args.cz
+    (c.args.w * 2 ^ c.args.k) c.signed_sum-d.result.hi c.signed_sum-d.result.lo = let z = c.shift_word-z in let p = c.product-p in terms c.args.cp c.args.cz (c.args.u * c.args.v) (c.args.w * 2 ^ c.args.k) p.result.hi p.result.lo z.result.hi z.result.lo c.signed_sum-d.result.hi c.signed_sum-d.result.lo p.ensures z.ensures c.signed_sum-d.ensures in
     let no = sum-high c.args.cp c.args.cz (c.args.u * c.args.v) (c.args.w * 2 ^ c.args.k) c.args.s c.signed_sum-d.result.hi
-    c.signed_sum-d.result.lo c.requires.le_s.0 c.requires.le_s.1 (words c) c.if-d-s-ne0.true in (
+    c.signed_sum-d.result.lo c.requires.le_s.0 c.requires.le_s.1 words c.if-d-s-ne0.true in (
       c.refused.ensures.0 ∙ sym no,
       c.refused.ensures.1 ∙ sym
           (ap (λ (b : Bool). cond b (rounded_significand (signed_sum c.args.cp (c.args.u * c.args.v) c.args.cz (c.args.w * 2 ^ c.args.k))
@@ -47,8 +38,11 @@ returns-then-d-s-ne0 c =
 
 pub returns-then-x-ne1 : goal.returns-then-x-ne1
 returns-then-x-ne1 c =
+    let words : SignedWords c.args.cp (c.args.u * c.args.v)
+    c.args.cz
+    (c.args.w * 2 ^ c.args.k) c.signed_sum-d.result.hi c.signed_sum-d.result.lo = let z = c.shift_word-z in let p = c.product-p in terms c.args.cp c.args.cz (c.args.u * c.args.v) (c.args.w * 2 ^ c.args.k) p.result.hi p.result.lo z.result.hi z.result.lo c.signed_sum-d.result.hi c.signed_sum-d.result.lo p.ensures z.ensures c.signed_sum-d.ensures in
     let no = sum_other c.args.cp c.args.cz (c.args.u * c.args.v) (c.args.w * 2 ^ c.args.k) c.args.s c.signed_sum-d.result.hi
-    c.signed_sum-d.result.lo c.requires.le_s.0 c.requires.le_s.1 (words c) c.shift_more-x.result.hi c.shift_more-x.result.lo
+    c.signed_sum-d.result.lo c.requires.le_s.0 c.requires.le_s.1 words c.shift_more-x.result.hi c.shift_more-x.result.lo
     (below_pow c.signed_sum-d.result.hi (64 - c.args.s) c.if-d-s-ne0.false) c.shift_more-x.ensures.0 c.shift_more-x.ensures.1
     c.if-x-ne1.true in (
       c.refused-then-x-ne1.ensures.0 ∙ sym no,
@@ -65,15 +59,18 @@ near_word-requires c = small c.shift_more-x.result.hi c.if-x-ne1.false
 
 pub returns : goal.returns
 returns c =
+    let words : SignedWords c.args.cp (c.args.u * c.args.v)
+    c.args.cz
+    (c.args.w * 2 ^ c.args.k) c.signed_sum-d.result.hi c.signed_sum-d.result.lo = let z = c.shift_word-z in let p = c.product-p in terms c.args.cp c.args.cz (c.args.u * c.args.v) (c.args.w * 2 ^ c.args.k) p.result.hi p.result.lo z.result.hi z.result.lo c.signed_sum-d.result.hi c.signed_sum-d.result.lo p.ensures z.ensures c.signed_sum-d.ensures in
     let p = c.args.u * c.args.v in
     let z = c.args.w * 2 ^ c.args.k in
     let fit = below_pow c.signed_sum-d.result.hi (64 - c.args.s) c.if-d-s-ne0.false in (
       sym
           (sum-leads c.args.cp c.args.cz p z c.args.s c.signed_sum-d.result.hi c.signed_sum-d.result.lo c.requires.le_s.0
-          c.requires.le_s.1 (words c)
+          c.requires.le_s.1 words
           c.shift_more-x.result.hi c.shift_more-x.result.lo fit c.shift_more-x.ensures.0 c.shift_more-x.ensures.1 c.if-x-ne1.false),
       sum_near c.args.cp c.args.cz p z c.args.s c.signed_sum-d.result.hi c.signed_sum-d.result.lo c.requires.le_s.0 c.requires.le_s.1
-          (words c)
+          words
           c.shift_more-x.result.hi c.shift_more-x.result.lo fit c.shift_more-x.ensures.0 c.shift_more-x.ensures.1 c.near_word.result
           c.near_word.ensures,
     )

@@ -11,27 +11,6 @@ use Rattle.fused_guided.proofs.Laws.Guided.{product_high}
 use Rattle.fused_guided.proofs.Laws.Far.{far_law}
 use Rattle.fused_guided.specs.Guided.{cut_bias}
 use Rattle.fused_guided.proofs.unguided.Goals as goal
-use Rattle.fused_guided.proofs.unguided.Tie as tie
-
-held_x : (c : tie.Start) → T (fits binary64 c.args.x)
-held_x c = subst T (sym c.well_formed.0.1) tt
-
-held-y : (c : tie.Start) → T (fits binary64 c.args.y)
-held-y c = subst T (sym c.well_formed.1.0.1) tt
-
-held-z : (c : tie.Start) → T (fits binary64 c.args.z)
-held-z c = subst T (sym c.well_formed.1.1.0.1) tt
-
-ok-there : (c : tie.Else-not-far_above) → Far c.field-ex.result c.field-ey.result
-    c.field-ez.result
-ok-there c =
-    far_is c.field-ex.result c.field-ey.result c.field-ez.result (sym c.far_above.ensures ∙ not-false c.far_above.result c.if-not-far_above.false)
-
--- the exponent of the product's digits above the cut
-rest-there : (c : tie.Else-not-far_above) → RestPlace cut_bias c.field-ex.result c.field-ey.result
-rest-there c =
-    rest-place cut_bias c.field-ex.result c.field-ey.result (lib.Dec.lit≤ tt) (lib.Dec.lit< tt)
-    (ok-there c).factors
 
 pub float_to_bits-bx : goal.float_to_bits-bx
 float_to_bits-bx c = c.requires.t
@@ -74,15 +53,24 @@ overflow_add-f c = Fits-below tt (most c.jam_product-f.result c.jam_product-f.en
 
 pub overflow_add-ex : goal.overflow_add-ex
 overflow_add-ex c =
-    Fits-below tt (rest-there c).top
+    let ok-there : Far c.field-ex.result c.field-ey.result
+    c.field-ez.result = far_is c.field-ex.result c.field-ey.result c.field-ez.result (sym c.far_above.ensures ∙ not-false c.far_above.result (ap not c.if-not-far_above.false)) in
+    let rest-there : RestPlace cut_bias c.field-ex.result c.field-ey.result = rest-place cut_bias c.field-ex.result c.field-ey.result (lib.Dec.lit≤ tt) (lib.Dec.lit< tt) ok-there.factors in
+    Fits-below tt rest-there.top
 
 pub overflow_sub-ex : goal.overflow_sub-ex
 overflow_sub-ex c =
-    (rest-there c).low
+    let ok-there : Far c.field-ex.result c.field-ey.result
+    c.field-ez.result = far_is c.field-ex.result c.field-ey.result c.field-ez.result (sym c.far_above.ensures ∙ not-false c.far_above.result (ap not c.if-not-far_above.false)) in
+    let rest-there : RestPlace cut_bias c.field-ex.result c.field-ey.result = rest-place cut_bias c.field-ex.result c.field-ey.result (lib.Dec.lit≤ tt) (lib.Dec.lit< tt) ok-there.factors in
+    rest-there.low
 
 pub residual_float-requires : goal.residual_float-requires
 residual_float-requires c =
-    let r = rest-there c in
+    let ok-there : Far c.field-ex.result c.field-ey.result
+    c.field-ez.result = far_is c.field-ex.result c.field-ey.result c.field-ez.result (sym c.far_above.ensures ∙ not-false c.far_above.result (ap not c.if-not-far_above.false)) in
+    let rest-there : RestPlace cut_bias c.field-ex.result c.field-ey.result = rest-place cut_bias c.field-ex.result c.field-ey.result (lib.Dec.lit≤ tt) (lib.Dec.lit< tt) ok-there.factors in
+    let r = rest-there in
     (above c.jam_product-f.result c.jam_product-f.ensures.1, (r.some, r.most))
   where
     above : (f : ℕ) → f < 2 ^ 51 → 2 ^ 51 + f < 2 ^ 52
@@ -90,13 +78,18 @@ residual_float-requires c =
 
 pub returns : goal.returns
 returns c =
+    let held_x : T (fits binary64 c.args.x) = subst T (sym c.well_formed.0.1) tt in
+    let held-y : T (fits binary64 c.args.y) = subst T (sym c.well_formed.1.0.1) tt in
+    let held-z : T (fits binary64 c.args.z) = subst T (sym c.well_formed.1.1.0.1) tt in
+    let ok-there : Far c.field-ex.result c.field-ey.result
+    c.field-ez.result = far_is c.field-ex.result c.field-ey.result c.field-ez.result (sym c.far_above.ensures ∙ not-false c.far_above.result (ap not c.if-not-far_above.false)) in
     let sign : c.opposite-n.result ≡ unlike (sign_of c.args.x) (sign_of c.args.y) =
     c.opposite-n.ensures
     ∙ ap (λ (w : Bool). unlike w c.minus_sign-2.result) c.minus_sign.ensures
     ∙ ap (λ (w : Bool). unlike (sign_of c.args.x) w) c.minus_sign-2.ensures in
     let f = c.jam_product-f.result in
-    far_law c.args.x c.args.y c.args.z (held_x c) (held-y c) (held-z c) c.field-ex.result c.field-ey.result c.field-ez.result
-    c.normal_significand.result c.normal_significand-2.result c.field-ex.ensures c.field-ey.ensures c.field-ez.ensures (ok-there c) c.normal_significand.ensures
+    far_law c.args.x c.args.y c.args.z held_x held-y held-z c.field-ex.result c.field-ey.result c.field-ez.result
+    c.normal_significand.result c.normal_significand-2.result c.field-ex.ensures c.field-ey.ensures c.field-ez.ensures ok-there c.normal_significand.ensures
     c.normal_significand-2.ensures
     c.opposite-n.result f c.residual_float.result sign (subst (λ (w : ℕ). Jam w (2 ^ 55) f) c.product-p.ensures c.jam_product-f.ensures.0)
     c.jam_product-f.ensures.1 c.residual_float.ensures

@@ -9,65 +9,64 @@ use Rattle.fused_integer.proofs.Laws.Cases.{odd_x, odd_y, inf_z, zero_z, sum_no_
 use Rattle.binary64.specs.Format.{infinity_bits, lowest}
 use Rattle.binary64.specs.Nearest.{den}
 use Rattle.fused_integer.proofs.fused_numbers.Goals as goal
-use Rattle.fused_integer.proofs.fused_numbers.Tie as tie
-
-held_x : (c : tie.Start) → T (fits binary64 c.args.x)
-held_x c = subst T (sym c.well_formed.0.1) tt
-
-held-y : (c : tie.Start) → T (fits binary64 c.args.y)
-held-y c = subst T (sym c.well_formed.1.0.1) tt
-
-held-z : (c : tie.Start) → T (fits binary64 c.args.z)
-held-z c = subst T (sym c.well_formed.1.1.0.1) tt
 
 pub returns-then-not-plain : goal.returns-then-not-plain
 returns-then-not-plain c =
+    let held_x : T (fits binary64 c.args.x) = subst T (sym c.well_formed.0.1) tt in
     let m = c.magnitude-ax in
-    odd_x c.args.x c.args.y c.args.z m.result (held_x c) c.requires.t m.ensures
-    (c.plain.ensures.1 (not-true c.plain.result c.if-not-plain.true))
+    odd_x c.args.x c.args.y c.args.z m.result held_x c.requires.t m.ensures
+    (c.plain.ensures.1 (not-true c.plain.result (ap not c.if-not-plain.true)))
 
 pub returns-then-not-plain-2 : goal.returns-then-not-plain-2
 returns-then-not-plain-2 c =
+    let held_x : T (fits binary64 c.args.x) = subst T (sym c.well_formed.0.1) tt in
+    let held-y : T (fits binary64 c.args.y) = subst T (sym c.well_formed.1.0.1) tt in
     let m = c.magnitude-ay in
     let mx = c.magnitude-ax in
     let px = c.plain in
     odd_y c.args.x c.args.y c.args.z (sign_of c.args.x) (mag mx.result) m.result
-    (plain_value c.args.x mx.result (held_x c) mx.ensures (px.ensures.0 (not-false px.result c.if-not-plain.false)).1)
-    (held-y c) c.requires.t_2 m.ensures (c.plain-2.ensures.1 (not-true c.plain-2.result c.if-not-plain-2.true))
+    (plain_value c.args.x mx.result held_x mx.ensures (px.ensures.0 (not-false px.result (ap not c.if-not-plain.false))).1)
+    held-y c.requires.t_2 m.ensures (c.plain-2.ensures.1 (not-true c.plain-2.result (ap not c.if-not-plain-2.true)))
 
 pub returns-then-az-eq0 : goal.returns-then-az-eq0
 returns-then-az-eq0 c =
+    let held_x : T (fits binary64 c.args.x) = subst T (sym c.well_formed.0.1) tt in
+    let held-y : T (fits binary64 c.args.y) = subst T (sym c.well_formed.1.0.1) tt in
+    let held-z : T (fits binary64 c.args.z) = subst T (sym c.well_formed.1.1.0.1) tt in
     let mx = c.magnitude-ax in
     let my = c.magnitude-ay in
     let mz = c.magnitude-az in
     let px = c.plain in
     let py = c.plain-2 in
-    let gx = px.ensures.0 (not-false px.result c.if-not-plain.false) in
-    let gy = py.ensures.0 (not-false py.result c.if-not-plain-2.false) in
+    let gx = px.ensures.0 (not-false px.result (ap not c.if-not-plain.false)) in
+    let gy = py.ensures.0 (not-false py.result (ap not c.if-not-plain-2.false)) in
     zero_z c.args.x c.args.y c.args.z (sign_of c.args.x) (sign_of c.args.y) (sign_of c.args.z) (mag mx.result) (mag my.result)
-    (plain_value c.args.x mx.result (held_x c) mx.ensures gx.1) (plain_value c.args.y my.result (held-y c) my.ensures gy.1)
-    (mag_pos mx.result gx.0) (mag_pos my.result gy.0) (read_zero c.args.z (held-z c) (sym mz.ensures ∙ c.if-az-eq0.true))
+    (plain_value c.args.x mx.result held_x mx.ensures gx.1) (plain_value c.args.y my.result held-y my.ensures gy.1)
+    (mag_pos mx.result gx.0) (mag_pos my.result gy.0) (read_zero c.args.z held-z (sym mz.ensures ∙ c.if-az-eq0.true))
 
 pub returns-then-az-ge-INFINITY_BITS : goal.returns-then-az-ge-INFINITY_BITS
 returns-then-az-ge-INFINITY_BITS c =
+    let held_x : T (fits binary64 c.args.x) = subst T (sym c.well_formed.0.1) tt in
+    let held-y : T (fits binary64 c.args.y) = subst T (sym c.well_formed.1.0.1) tt in
+    let held-z : T (fits binary64 c.args.z) = subst T (sym c.well_formed.1.1.0.1) tt in
     let mx = c.magnitude-ax in
     let my = c.magnitude-ay in
     let mz = c.magnitude-az in
     let px = c.plain in
     let py = c.plain-2 in
-    let gx = px.ensures.0 (not-false px.result c.if-not-plain.false) in
-    let gy = py.ensures.0 (not-false py.result c.if-not-plain-2.false) in
+    let gx = px.ensures.0 (not-false px.result (ap not c.if-not-plain.false)) in
+    let gy = py.ensures.0 (not-false py.result (ap not c.if-not-plain-2.false)) in
     inf_z c.args.x c.args.y c.args.z (sign_of c.args.x) (sign_of c.args.y) (sign_of c.args.z) (mag mx.result) (mag my.result)
-    (plain_value c.args.x mx.result (held_x c) mx.ensures gx.1) (plain_value c.args.y my.result (held-y c) my.ensures gy.1)
-    (read-inf c.args.z (held-z c) c.requires.t_3 (subst (λ (w : ℕ). infinity_bits ≤ w) mz.ensures c.if-az-ge-INFINITY_BITS.true))
+    (plain_value c.args.x mx.result held_x mx.ensures gx.1) (plain_value c.args.y my.result held-y my.ensures gy.1)
+    (read-inf c.args.z held-z c.requires.t_3 (subst (λ (w : ℕ). infinity_bits ≤ w) mz.ensures c.if-az-ge-INFINITY_BITS.true))
 
 pub finite-requires : goal.finite-requires
 finite-requires c =
     let px = c.plain in
     let py = c.plain-2 in (
-      px.ensures.0 (not-false px.result c.if-not-plain.false),
+      px.ensures.0 (not-false px.result (ap not c.if-not-plain.false)),
       (
-        py.ensures.0 (not-false py.result c.if-not-plain-2.false),
+        py.ensures.0 (not-false py.result (ap not c.if-not-plain-2.false)),
         (some c.magnitude-az.result c.if-az-eq0.false, c.if-az-ge-INFINITY_BITS.false),
       ),
     )
@@ -84,13 +83,16 @@ float_from_bits-result c =
 
 pub returns : goal.returns
 returns c =
+    let held_x : T (fits binary64 c.args.x) = subst T (sym c.well_formed.0.1) tt in
+    let held-y : T (fits binary64 c.args.y) = subst T (sym c.well_formed.1.0.1) tt in
+    let held-z : T (fits binary64 c.args.z) = subst T (sym c.well_formed.1.1.0.1) tt in
     let mx = c.magnitude-ax in
     let my = c.magnitude-ay in
     let mz = c.magnitude-az in
     let px = c.plain in
     let py = c.plain-2 in
-    let gx = px.ensures.0 (not-false px.result c.if-not-plain.false) in
-    let gy = py.ensures.0 (not-false py.result c.if-not-plain-2.false) in
+    let gx = px.ensures.0 (not-false px.result (ap not c.if-not-plain.false)) in
+    let gy = py.ensures.0 (not-false py.result (ap not c.if-not-plain-2.false)) in
     let n = mag mx.result * mag my.result in
     let p = mag mz.result * 2 ^ lowest in
     let sx : c.opposite.result ≡ unlike (sign_of c.args.x) (sign_of c.args.y) =
@@ -101,5 +103,5 @@ returns c =
     ∙ ap (λ (w : Bool). sum binary64 (unlike (sign_of c.args.x) (sign_of c.args.y)) n w p den) c.negative-3.ensures
     ∙ fma-values c.args.x c.args.y c.args.z (sign_of c.args.x) (sign_of c.args.y) (sign_of c.args.z) (mag mx.result)
     (mag my.result) (mag mz.result)
-    (plain_value c.args.x mx.result (held_x c) mx.ensures gx.1) (plain_value c.args.y my.result (held-y c) my.ensures gy.1)
-    (plain_value c.args.z mz.result (held-z c) mz.ensures c.if-az-ge-INFINITY_BITS.false)
+    (plain_value c.args.x mx.result held_x mx.ensures gx.1) (plain_value c.args.y my.result held-y my.ensures gy.1)
+    (plain_value c.args.z mz.result held-z mz.ensures c.if-az-ge-INFINITY_BITS.false)

@@ -19,7 +19,7 @@ returns-then-t-lt64 c =
     let t = normal_from - c.args.exp in
     let l = c.low_bits.ensures in
     let k = c.sticky in
-    rounds-low sig c.args.exp t k.result c.rounded-then-t-lt64.result c.if-exp-ge-NORMAL_FROM.false refl k.type-inv
+    rounds-low sig c.args.exp t k.result c.rounded-then-t-lt64.result c.if-exp-ge-NORMAL_FROM.false refl k.type_inv
     (word_law sig t k.result (λ z. k.ensures.0 (l ∙ z)) (λ z. k.ensures.1 (λ u. z (sym l ∙ u))))
     c.rounded-then-t-lt64.ensures
 

@@ -6,18 +6,6 @@ use Rattle.binary64.proofs.Pattern.{no_nan}
 use Rattle.fused_lanes.specs.Lanes as Spec
 use Rattle.fused_lanes.proofs.Laws.Lane.{lane-fma}
 use Rattle.fused_lanes.proofs.square_add.Goals as goal
-use Rattle.fused_lanes.proofs.square_add.Tie as tie
-
-held_x : (c : tie.Start) → T (fits binary64 c.args.x)
-held_x c = subst T (sym c.well_formed.0.1) tt
-
-held-z : (c : tie.Start) → T (fits binary64 c.args.z)
-held-z c = subst T (sym c.well_formed.1.0.1) tt
-
-lane : (c : tie.After-settled) → c.settled.result ≡ Spec.square_add c.args.x c.args.z
-unfolding Spec.square_add
-lane c =
-    rw (c.settled.ensures, c.select-alone.ensures, c.not_a_number.ensures, c.sum_residual.ensures, c.square_residual.ensures, c.leading.ensures, c.magnitude_or_zero-b.ensures.value)
 
 pub float_from_bits-a : goal.float_from_bits-a
 float_from_bits-a c = no_nan c.magnitude_or_zero-b.result c.magnitude_or_zero-b.ensures.upper_bound
@@ -26,6 +14,10 @@ pub leading-requires : goal.leading-requires
 leading-requires c = c.magnitude_or_zero-b.ensures.upper_bound
 
 pub returns : goal.returns
+unfolding Spec.square_add
 returns c =
-    let e = lane c in
-    record { value = e; value_2 = λ n. e ∙ lane-fma c.args.x c.args.z (held_x c) (held-z c) (sym (ap is_nan e) ∙ n) }
+    let held_x : T (fits binary64 c.args.x) = subst T (sym c.well_formed.0.1) tt in
+    let held-z : T (fits binary64 c.args.z) = subst T (sym c.well_formed.1.0.1) tt in
+    let lane : c.settled.result ≡ Spec.square_add c.args.x c.args.z = rw (c.settled.ensures, c.select-alone.ensures, c.not_a_number.ensures, c.sum_residual.ensures, c.square_residual.ensures, c.leading.ensures, c.magnitude_or_zero-b.ensures.value) in
+    let e = lane in
+    record { value = e; value_2 = λ n. e ∙ lane-fma c.args.x c.args.z held_x held-z (sym (ap is_nan e) ∙ n) }

@@ -12,20 +12,6 @@ use Rattle.fused_multiply_add.proofs.Laws.Candidate.{place-word, t_plus, close, 
 use Rattle.fused_integer.proofs.Laws.Cases.{lone_product_lem}
 use Rattle.fused_multiply_add.specs.Residual.{lone_product, residual_bias, least_place}
 use Rattle.fused_multiply_add.proofs.square_add.Goals as goal
-use Rattle.fused_multiply_add.proofs.square_add.Tie as tie
-
-held_x : (c : tie.Start) → T (fits binary64 c.args.x)
-held_x c = subst T (sym c.well_formed.0.1) tt
-
-held-z : (c : tie.Start) → T (fits binary64 c.args.z)
-held-z c = subst T (sym c.well_formed.1.0.1) tt
-
-ok-there : (c : tie.Else-not-reach) → Reach least_place c.field-ex.result
-    c.field-ex.result c.wrapping_sub_u64-k.result
-    c.wrapping_sub_u64-m.result
-ok-there c =
-    reach_is least_place c.field-ex.result c.field-ex.result c.wrapping_sub_u64-k.result c.wrapping_sub_u64-m.result
-    (sym c.reach.ensures ∙ not-false c.reach.result c.if-not-reach.false)
 
 -- the square has no minus sign, nor has z
 square-plus : (s : Bool) → unlike s s ≡ false
@@ -37,27 +23,6 @@ product-sign s = sym (ap (λ (b : Bool). unlike b false) (square-plus s))
 
 addend-sign : (s : Bool) → s ≡ false → false ≡ unlike s false
 addend-sign s e = sym (ap (λ (b : Bool). unlike b false) e)
-
-z-plus : (c : tie.Else-bz-ge-SIGN_BIT) → sign_of c.args.z ≡ false
-z-plus c = lt-leb (2 ^ 63) (to_bits binary64 c.args.z) c.if-bz-ge-SIGN_BIT.false
-
--- nor has t
-t-sign : (c : tie.After-normal_significand-2)
-    →
-    sign_of (add binary64 (mul binary64 c.args.x c.args.x) c.args.z) ≡ false
-t-sign c =
-    t_plus c.args.x c.args.x c.args.z (held_x c) (held_x c) (held-z c) c.field-ex.result c.field-ex.result c.field-ez.result
-    c.field-et.result
-    c.wrapping_sub_u64-k.result c.wrapping_sub_u64-m.result c.normal_significand-u.result c.normal_significand-u.result c.normal_significand.result c.normal_significand-2.result
-    c.field-ex.ensures c.field-ex.ensures c.field-ez.ensures c.field-et.ensures c.wrapping_sub_u64-k.ensures c.wrapping_sub_u64-m.ensures
-    (ok-there c) c.normal_significand-u.ensures c.normal_significand-u.ensures c.normal_significand.ensures c.normal_significand-2.ensures (square-plus (sign_of c.args.x)) (z-plus c)
-
--- the exponent of the residual
-rest-there : (c : tie.Else-not-reach) → RestPlace residual_bias c.field-ex.result
-    c.field-ex.result
-rest-there c =
-    let x = c.field-ex.result in
-    rest-place residual_bias x x (lib.Dec.lit≤ tt) (lib.Dec.lit< tt) (ok-there c).factors
 
 pub float_to_bits-bx : goal.float_to_bits-bx
 float_to_bits-bx c =
@@ -77,31 +42,55 @@ guided-requires c =
 
 pub residual_word-g-requires : goal.residual_word-g-requires
 residual_word-g-requires c =
-    let ok = ok-there c in record { k_bound = (ok.near_z, place-word c.wrapping_sub_u64-m.result ok.near_t); fits = close c.args.x c.args.x c.args.z (held_x c) (held_x c) (held-z c) c.field-ex.result c.field-ex.result c.field-ez.result
+    let held_x : T (fits binary64 c.args.x) = subst T (sym c.well_formed.0.1) tt in
+    let held-z : T (fits binary64 c.args.z) = subst T (sym c.well_formed.1.0.1) tt in
+    let ok-there : Reach least_place c.field-ex.result
+    c.field-ex.result c.wrapping_sub_u64-k.result
+    c.wrapping_sub_u64-m.result = reach_is least_place c.field-ex.result c.field-ex.result c.wrapping_sub_u64-k.result c.wrapping_sub_u64-m.result (sym c.reach.ensures ∙ not-false c.reach.result (ap not c.if-not-reach.false)) in
+    let z-plus : sign_of c.args.z ≡ false = lt-leb (2 ^ 63) (to_bits binary64 c.args.z) c.if-bz-ge-SIGN_BIT.false in
+    let t-sign : sign_of (add binary64 (mul binary64 c.args.x c.args.x) c.args.z) ≡ false = t_plus c.args.x c.args.x c.args.z held_x held_x held-z c.field-ex.result c.field-ex.result c.field-ez.result c.field-et.result c.wrapping_sub_u64-k.result c.wrapping_sub_u64-m.result c.normal_significand-u.result c.normal_significand-u.result c.normal_significand.result c.normal_significand-2.result c.field-ex.ensures c.field-ex.ensures c.field-ez.ensures c.field-et.ensures c.wrapping_sub_u64-k.ensures c.wrapping_sub_u64-m.ensures ok-there c.normal_significand-u.ensures c.normal_significand-u.ensures c.normal_significand.ensures c.normal_significand-2.ensures (square-plus (sign_of c.args.x)) z-plus in
+    let ok = ok-there in record { k_bound = (ok.near_z, place-word c.wrapping_sub_u64-m.result ok.near_t); fits = close c.args.x c.args.x c.args.z held_x held_x held-z c.field-ex.result c.field-ex.result c.field-ez.result
           c.field-et.result
           c.wrapping_sub_u64-k.result c.wrapping_sub_u64-m.result c.normal_significand-u.result c.normal_significand-u.result c.normal_significand.result
           c.normal_significand-2.result
           c.field-ex.ensures c.field-ex.ensures c.field-ez.ensures c.field-et.ensures c.wrapping_sub_u64-k.ensures
           c.wrapping_sub_u64-m.ensures
           ok c.normal_significand-u.ensures c.normal_significand-u.ensures c.normal_significand.ensures c.normal_significand-2.ensures false false false
-          (sym (t-sign c)) (product-sign (sign_of c.args.x)) (addend-sign (sign_of c.args.z) (z-plus c)) }
+          (sym t-sign) (product-sign (sign_of c.args.x)) (addend-sign (sign_of c.args.z) z-plus) }
 
 pub overflow_sub-ex : goal.overflow_sub-ex
 overflow_sub-ex c =
-    (rest-there c).low
+    let ok-there : Reach least_place c.field-ex.result
+    c.field-ex.result c.wrapping_sub_u64-k.result
+    c.wrapping_sub_u64-m.result = reach_is least_place c.field-ex.result c.field-ex.result c.wrapping_sub_u64-k.result c.wrapping_sub_u64-m.result (sym c.reach.ensures ∙ not-false c.reach.result (ap not c.if-not-reach.false)) in
+    let rest-there : RestPlace residual_bias c.field-ex.result
+    c.field-ex.result = let x = c.field-ex.result in rest-place residual_bias x x (lib.Dec.lit≤ tt) (lib.Dec.lit< tt) ok-there.factors in
+    rest-there.low
 
 pub residual_float-requires : goal.residual_float-requires
 residual_float-requires c =
-    let r = rest-there c in record { f_bound = c.jam_word.ensures.1; le_e = (r.some, r.most) }
+    let ok-there : Reach least_place c.field-ex.result
+    c.field-ex.result c.wrapping_sub_u64-k.result
+    c.wrapping_sub_u64-m.result = reach_is least_place c.field-ex.result c.field-ex.result c.wrapping_sub_u64-k.result c.wrapping_sub_u64-m.result (sym c.reach.ensures ∙ not-false c.reach.result (ap not c.if-not-reach.false)) in
+    let rest-there : RestPlace residual_bias c.field-ex.result
+    c.field-ex.result = let x = c.field-ex.result in rest-place residual_bias x x (lib.Dec.lit≤ tt) (lib.Dec.lit< tt) ok-there.factors in
+    let r = rest-there in record { f_bound = c.jam_word.ensures.1; le_e = (r.some, r.most) }
 
 pub returns : goal.returns
 returns c =
-    residual_law c.args.x c.args.x c.args.z (held_x c) (held_x c) (held-z c) c.field-ex.result c.field-ex.result c.field-ez.result
+    let held_x : T (fits binary64 c.args.x) = subst T (sym c.well_formed.0.1) tt in
+    let held-z : T (fits binary64 c.args.z) = subst T (sym c.well_formed.1.0.1) tt in
+    let ok-there : Reach least_place c.field-ex.result
+    c.field-ex.result c.wrapping_sub_u64-k.result
+    c.wrapping_sub_u64-m.result = reach_is least_place c.field-ex.result c.field-ex.result c.wrapping_sub_u64-k.result c.wrapping_sub_u64-m.result (sym c.reach.ensures ∙ not-false c.reach.result (ap not c.if-not-reach.false)) in
+    let z-plus : sign_of c.args.z ≡ false = lt-leb (2 ^ 63) (to_bits binary64 c.args.z) c.if-bz-ge-SIGN_BIT.false in
+    let t-sign : sign_of (add binary64 (mul binary64 c.args.x c.args.x) c.args.z) ≡ false = t_plus c.args.x c.args.x c.args.z held_x held_x held-z c.field-ex.result c.field-ex.result c.field-ez.result c.field-et.result c.wrapping_sub_u64-k.result c.wrapping_sub_u64-m.result c.normal_significand-u.result c.normal_significand-u.result c.normal_significand.result c.normal_significand-2.result c.field-ex.ensures c.field-ex.ensures c.field-ez.ensures c.field-et.ensures c.wrapping_sub_u64-k.ensures c.wrapping_sub_u64-m.ensures ok-there c.normal_significand-u.ensures c.normal_significand-u.ensures c.normal_significand.ensures c.normal_significand-2.ensures (square-plus (sign_of c.args.x)) z-plus in
+    residual_law c.args.x c.args.x c.args.z held_x held_x held-z c.field-ex.result c.field-ex.result c.field-ez.result
     c.field-et.result
     c.wrapping_sub_u64-k.result c.wrapping_sub_u64-m.result c.normal_significand-u.result c.normal_significand-u.result c.normal_significand.result c.normal_significand-2.result
     c.field-ex.ensures c.field-ex.ensures c.field-ez.ensures c.field-et.ensures c.wrapping_sub_u64-k.ensures c.wrapping_sub_u64-m.ensures
-    (ok-there c) c.normal_significand-u.ensures c.normal_significand-u.ensures c.normal_significand.ensures c.normal_significand-2.ensures false false false
-    (sym (t-sign c)) (product-sign (sign_of c.args.x)) (addend-sign (sign_of c.args.z) (z-plus c)) c.residual_word-g.result c.jam_word.result
+    ok-there c.normal_significand-u.ensures c.normal_significand-u.ensures c.normal_significand.ensures c.normal_significand-2.ensures false false false
+    (sym t-sign) (product-sign (sign_of c.args.x)) (addend-sign (sign_of c.args.z) z-plus) c.residual_word-g.result c.jam_word.result
     c.residual_float.result c.residual_word-g.ensures c.jam_word.ensures.0 c.residual_float.ensures
 
 pub returns-then-lone_product : goal.returns-then-lone_product

@@ -18,7 +18,7 @@ pub link_marked-requires : goal.link_marked-requires
 link_marked-requires c =
     let w = c.requires in
     let f = c.flag_panels in
-    let long : length f.new.1.1.1.1.0 ≡ 8192 = f.auto.1.1.1.1.0 in
+    let long : length f.new.flags ≡ 8192 = f.auto.flags in
     (rw long w.few_panels, w.few_panels)
 
 pub clear_named-requires : goal.clear_named-requires
@@ -32,20 +32,20 @@ add_all-requires c =
     let s = c.clear_named in
     let f = c.flag_panels in
     let l = c.link_marked in
-    let flags-fit : length f.new.1.1.1.1.0 ≡ 8192 = f.auto.1.1.1.1.0 in
-    let links-fit : length l.new.1.1.0 ≡ 8192 = l.auto.1.1.0 in record { ready = ready_now m a.out.now s.new.0 a.marks.now c.requires (cleared_length (marked a.marks.now) (nnode m) a.out.now c.requires.sized.cells s.ensures); scanned = record { flags_long = rw flags-fit c.requires.few_panels; links_long = rw links-fit c.requires.few_panels; flagged = f.ensures; linked = l.ensures } }
+    let flags-fit : length f.new.flags ≡ 8192 = f.auto.flags in
+    let links-fit : length l.new.links ≡ 8192 = l.auto.links in record { ready = ready_now m a.out.now s.new.out a.marks.now c.requires (cleared_length (marked a.marks.now) (nnode m) a.out.now c.requires.sized.cells s.ensures); scanned = record { flags_long = rw flags-fit c.requires.few_panels; links_long = rw links-fit c.requires.few_panels; flagged = f.ensures; linked = l.ensures } }
 
 pub copy_below-requires : goal.copy_below-requires
 copy_below-requires c =
     let w = c.requires.sized in
-    let long = c.add_all.auto.1.1.1.1.1.1.1.1.1.1.0 ∙ c.clear_named.auto.0 in
+    let long = c.add_all.auto.out ∙ c.clear_named.auto.out in
     record { small = w.small; cells = long ∙ w.cells; enough = w.enough }
 
 pub shape_of-out : goal.shape_of-out
 shape_of-out c =
-    c.copy_below.auto.0
-    ∙ c.add_all.auto.1.1.1.1.1.1.1.1.1.1.0
-    ∙ c.clear_named.auto.0
+    c.copy_below.auto.out
+    ∙ c.add_all.auto.out
+    ∙ c.clear_named.auto.out
 
 pub returns : goal.returns
 returns c =
@@ -55,7 +55,7 @@ returns c =
     let s = c.clear_named in
     let t = c.add_all in
     let u = c.copy_below in
-    loops_done (marked a.marks.now) (nnode m) f m a.out.now s.new.0 t.new.1.1.1.1.1.1.1.1.1.1.0 u.new.0 (entries-within f m c.requires.none_missing) s.ensures t.ensures u.ensures
+    loops_done (marked a.marks.now) (nnode m) f m a.out.now s.new.out t.new.out u.new.out (entries-within f m c.requires.none_missing) s.ensures t.ensures u.ensures
 
 pub slice_bounds-link_marked-end : goal.slice_bounds-link_marked-end
 slice_bounds-link_marked-end c = sym c.flag_panels.auto.1.1.1.1.0

@@ -30,7 +30,7 @@ mark_ring-requires c =
 
 pub count_marks-r-requires : goal.count_marks-r-requires
 count_marks-r-requires c =
-    marks-enough _ _ c.requires.small c.mark_ring.auto.0
+    marks-enough _ _ c.requires.small c.mark_ring.auto.marks
 
 pub offset_bounds-x-v : goal.offset_bounds-x-v
 offset_bounds-x-v c =
@@ -64,12 +64,12 @@ pub renew-requires : goal.renew-requires
 renew-requires c =
     let a = c.args in
     let q = c.mark_ring in
-    moved_ready (mesh_of a.x.now a.y.now a.z.now a.t0.now a.t1.now a.t2.now) a.out.now a.v _ _ _ q.new.0 c.requires (marks-enough _ _ c.requires.small q.auto.0)
+    moved_ready (mesh_of a.x.now a.y.now a.z.now a.t0.now a.t1.now a.t2.now) a.out.now a.v _ _ _ q.new.marks c.requires (marks-enough _ _ c.requires.small q.auto.marks)
 
 pub named_cells-requires : goal.named_cells-requires
 named_cells-requires c =
     let n = length c.args.x.now in
-    (c.requires.small, subst (λ (k : ℕ). k ≤ n) (sym c.count_marks-r.ensures) (count_bound (marked c.mark_ring.new.0) n))
+    (c.requires.small, subst (λ (k : ℕ). k ≤ n) (sym c.count_marks-r.ensures) (count_bound (marked c.mark_ring.new.marks) n))
 
 pub shape_of-x : goal.shape_of-x
 shape_of-x c =
@@ -90,7 +90,7 @@ returns c =
     let q = c.mark_ring in
     let t = c.count_marks-r in
     let n = c.renew in
-    move_done (cell (mutual_inductance_block a.kind)) m a.v a.px a.py a.pz a.out.now _ q.new.0 _ t.result c.named_cells.result 4096 q.ensures (length-set a.x.now a.v a.px) n.ensures t.ensures c.named_cells.ensures
+    move_done (cell (mutual_inductance_block a.kind)) m a.v a.px a.py a.pz a.out.now _ q.new.marks _ t.result c.named_cells.result 4096 q.ensures (length-set a.x.now a.v a.px) n.ensures t.ensures c.named_cells.ensures
 
 pub slice_bounds-count_marks-end : goal.slice_bounds-count_marks-end
 slice_bounds-count_marks-end c = sym c.mark_ring.auto.0

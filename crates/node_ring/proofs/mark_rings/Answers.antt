@@ -32,7 +32,7 @@ loop-p-preserved c =
     let q = c.mark_touched in (
       omega arith,
       search rules,
-      λ k. ring_turn (mesh_of [] [] [] a.t0.now a.t1.now a.t2.now) (marked a.changed.now) k l.p t.result (marked l.marks k) (marked q.new.0 k) (marked a.marks.now k) t.ensures (l.invariant.2 k) (q.ensures k),
+      λ k. ring_turn (mesh_of [] [] [] a.t0.now a.t1.now a.t2.now) (marked a.changed.now) k l.p t.result (marked l.marks k) (marked q.new.marks k) (marked a.marks.now k) t.ensures (l.invariant.2 k) (q.ensures k),
     )
 
 pub shape_of-marks : goal.shape_of-marks

@@ -30,7 +30,7 @@ pub add_sources-requires : goal.add_sources-requires
 add_sources-requires c =
     let w = c.requires in
     let k = c.cache_panels in
-    let fit : length k.new.1.1.1.1.1.1.0 ≡ cache_length = k.auto.1.1.1.1.1.1.0 ∙ search rules in
+    let fit : length k.new.cache ≡ cache_length = k.auto.cache ∙ search rules in
     record { ready = w.0; scanned = w.1; all_cached = record { long = room _ _ w.0.few_panels fit; holds = k.ensures } }
 
 pub returns-then-next_named-t0 : goal.returns-then-next_named-t0

@@ -7,19 +7,19 @@ use Rattle.lists.specs.Filling.{tabulate}
 use Rattle.lists.proofs.Runs.{begun, front_further, filled_whole}
 use Rattle.panel_file.specs.PanelFile as Spec
 use Rattle.panel_file.proofs.fill_coordinates.Goals as goal
-use Rattle.panel_file.proofs.fill_coordinates.Tie as tie
-
-below : (c : tie.In-loop-k invariant-loop decreases-loop) → c.loop-k.k < length c.args.out.now
-below c = omega (arith, c.loop-k.invariant.long, c.loop-k-test.true)
 
 pub loop-k-init : goal.loop-k-init
 loop-k-init c = begun (omega arith)
 
 pub loop-k-smaller : goal.loop-k-smaller
-loop-k-smaller c = omega (arith, below c)
+loop-k-smaller c =
+    let below : c.loop-k.k < length c.args.out.now = omega (arith, c.loop-k.invariant.long, c.loop-k-test.true) in
+    omega (arith, below)
 
 pub loop-k-preserved : goal.loop-k-preserved
-loop-k-preserved c = front_further c.loop-k.invariant (below c) refl c.coordinate.ensures
+loop-k-preserved c =
+    let below : c.loop-k.k < length c.args.out.now = omega (arith, c.loop-k.invariant.long, c.loop-k-test.true) in
+    front_further c.loop-k.invariant below refl c.coordinate.ensures
 
 pub shape_of-out : goal.shape_of-out
 shape_of-out c = c.loop-k.invariant.long
@@ -32,12 +32,15 @@ returns c =
 
 pub coordinate-requires : goal.coordinate-requires
 coordinate-requires c =
-    (omega (arith, below c, c.requires.0.few_nodes), c.requires.1, omega (arith, below c, c.requires.0.long))
+    let below : c.loop-k.k < length c.args.out.now = omega (arith, c.loop-k.invariant.long, c.loop-k-test.true) in
+    (omega (arith, below, c.requires.0.few_nodes), c.requires.1, omega (arith, below, c.requires.0.long))
 
 pub offset_bounds-out-k : goal.offset_bounds-out-k
 offset_bounds-out-k c =
-    omega (arith, below c, c.requires.0.few_nodes)
+    let below : c.loop-k.k < length c.args.out.now = omega (arith, c.loop-k.invariant.long, c.loop-k-test.true) in
+    omega (arith, below, c.requires.0.few_nodes)
 
 pub overflow_add-k : goal.overflow_add-k
 overflow_add-k c =
-    omega (arith, below c, c.requires.0.few_nodes)
+    let below : c.loop-k.k < length c.args.out.now = omega (arith, c.loop-k.invariant.long, c.loop-k-test.true) in
+    omega (arith, below, c.requires.0.few_nodes)

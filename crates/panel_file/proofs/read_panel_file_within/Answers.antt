@@ -11,22 +11,8 @@ use Rattle.panel_file.proofs.Accepted.{ready, whole, with_count}
 use Rattle.panel_file.proofs.read_panel_file_within.Goals as goal
 use Rattle.panel_file.proofs.read_panel_file_within.Tie as tie
 
-abbrev lent : tie.Start → Mesh
-lent c = mesh_of c.args.x.now c.args.y.now c.args.z.now c.args.t0.now c.args.t1.now c.args.t2.now
-
-abbrev entered : tie.Else-refusal-ne0 → tie.After-shared_slice_known-1
-entered c =
-    c
-
-abbrev entry : tie.Else-refusal-ne0 → tie.Start
-entry c = (entered c).before
-
--- a call that goes on: the file is whole and the columns are of its counts
-known : (c : tie.Else-refusal-ne0) → (length_differs 0 (entry c).args.bytes.now ≡ false) × MeshColumnsDue (entry c).args.bytes.now (lengths_of (lent (entry c)))
-known c = ready _ _ _ (lengths_of (lent (entry c))) (sym c.read_refusal-refusal.ensures ∙ c.if-refusal-ne0.false)
-
-holds : (c : tie.Else-refusal-ne0) (n : ℕ) → n ≡ node_count (entry c).args.bytes.now → Holds n (entry c).args.bytes.now
-holds c n e = with_count n _ e (whole 0 _ (λ k. ((entered c).shared-slice-known.given k).fits) (known c).0)
+holds : (c : tie.Else-refusal-ne0) (n : ℕ) → n ≡ node_count c.args.bytes.now → Holds n c.args.bytes.now
+holds c n e = with_count n _ e (whole 0 _ (λ k. (c.shared_slice_known-1.given k).fits) (known c).0)
 
 pub returns-then-refusal-ne0 : goal.returns-then-refusal-ne0
 returns-then-refusal-ne0 c =
@@ -43,27 +29,39 @@ returns-then-refusal-ne0 c =
 
 pub fill_coordinates-requires : goal.fill_coordinates-requires
 fill_coordinates-requires c =
-    (holds c _ (known c).1.nodes.first, omega arith)
+    let lent : Mesh = mesh_of c.args.x.now c.args.y.now c.args.z.now c.args.t0.now c.args.t1.now c.args.t2.now in
+    let known : (length_differs 0 c.args.bytes.now ≡ false) × MeshColumnsDue c.args.bytes.now (lengths_of lent) = ready _ _ _ (lengths_of lent) (sym c.read_refusal-refusal.ensures ∙ c.if-refusal-ne0.false) in
+    (holds c _ known.1.nodes.first, omega arith)
 
 pub fill_coordinates-requires-2 : goal.fill_coordinates-requires-2
 fill_coordinates-requires-2 c =
-    (holds c _ (known c).1.nodes.second, omega arith)
+    let lent : Mesh = mesh_of c.args.x.now c.args.y.now c.args.z.now c.args.t0.now c.args.t1.now c.args.t2.now in
+    let known : (length_differs 0 c.args.bytes.now ≡ false) × MeshColumnsDue c.args.bytes.now (lengths_of lent) = ready _ _ _ (lengths_of lent) (sym c.read_refusal-refusal.ensures ∙ c.if-refusal-ne0.false) in
+    (holds c _ known.1.nodes.second, omega arith)
 
 pub fill_coordinates-requires-3 : goal.fill_coordinates-requires-3
 fill_coordinates-requires-3 c =
-    (holds c _ (known c).1.nodes.third, omega arith)
+    let lent : Mesh = mesh_of c.args.x.now c.args.y.now c.args.z.now c.args.t0.now c.args.t1.now c.args.t2.now in
+    let known : (length_differs 0 c.args.bytes.now ≡ false) × MeshColumnsDue c.args.bytes.now (lengths_of lent) = ready _ _ _ (lengths_of lent) (sym c.read_refusal-refusal.ensures ∙ c.if-refusal-ne0.false) in
+    (holds c _ known.1.nodes.third, omega arith)
 
 pub fill_indices-requires : goal.fill_indices-requires
 fill_indices-requires c =
-    (holds c _ (known c).1.nodes.first, omega arith, (known c).1.panels.first)
+    let lent : Mesh = mesh_of c.args.x.now c.args.y.now c.args.z.now c.args.t0.now c.args.t1.now c.args.t2.now in
+    let known : (length_differs 0 c.args.bytes.now ≡ false) × MeshColumnsDue c.args.bytes.now (lengths_of lent) = ready _ _ _ (lengths_of lent) (sym c.read_refusal-refusal.ensures ∙ c.if-refusal-ne0.false) in
+    (holds c _ known.1.nodes.first, omega arith, known.1.panels.first)
 
 pub fill_indices-requires-2 : goal.fill_indices-requires-2
 fill_indices-requires-2 c =
-    (holds c _ (known c).1.nodes.first, omega arith, (known c).1.panels.second)
+    let lent : Mesh = mesh_of c.args.x.now c.args.y.now c.args.z.now c.args.t0.now c.args.t1.now c.args.t2.now in
+    let known : (length_differs 0 c.args.bytes.now ≡ false) × MeshColumnsDue c.args.bytes.now (lengths_of lent) = ready _ _ _ (lengths_of lent) (sym c.read_refusal-refusal.ensures ∙ c.if-refusal-ne0.false) in
+    (holds c _ known.1.nodes.first, omega arith, known.1.panels.second)
 
 pub fill_indices-requires-3 : goal.fill_indices-requires-3
 fill_indices-requires-3 c =
-    (holds c _ (known c).1.nodes.first, omega arith, (known c).1.panels.third)
+    let lent : Mesh = mesh_of c.args.x.now c.args.y.now c.args.z.now c.args.t0.now c.args.t1.now c.args.t2.now in
+    let known : (length_differs 0 c.args.bytes.now ≡ false) × MeshColumnsDue c.args.bytes.now (lengths_of lent) = ready _ _ _ (lengths_of lent) (sym c.read_refusal-refusal.ensures ∙ c.if-refusal-ne0.false) in
+    (holds c _ known.1.nodes.first, omega arith, known.1.panels.third)
 
 pub returns : goal.returns
 returns c =

@@ -31,7 +31,7 @@ loop-k-preserved c =
     let a = c.args in
     let l = c.loop-k in
     let p = c.put_three-to in
-    further 24 (node-length (mesh a.x.now a.y.now a.z.now)) c.requires.1 l.invariant c.loop-k-test.true p.auto.0 (of-bits c.canonical_bits-a.ensures c.canonical_bits-b.ensures c.canonical_bits-c.ensures p.ensures)
+    further 24 (node-length (mesh a.x.now a.y.now a.z.now)) c.requires.1 l.invariant c.loop-k-test.true p.auto.out (of-bits c.canonical_bits-a.ensures c.canonical_bits-b.ensures c.canonical_bits-c.ensures p.ensures)
 
 pub shape_of-out : goal.shape_of-out
 shape_of-out c = c.loop-k.invariant.long

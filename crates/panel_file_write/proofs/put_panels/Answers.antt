@@ -19,7 +19,7 @@ pub loop-i-preserved : goal.loop-i-preserved
 unfolding encode_panel
 loop-i-preserved c =
     let p = c.put_three-to in
-    further 6 (panel_length (mesh c.args.t0.now c.args.t1.now c.args.t2.now)) c.requires.1 c.loop-i.invariant c.loop-i-test.true p.auto.0 p.ensures
+    further 6 (panel_length (mesh c.args.t0.now c.args.t1.now c.args.t2.now)) c.requires.1 c.loop-i.invariant c.loop-i-test.true p.auto.out p.ensures
 
 pub shape_of-out : goal.shape_of-out
 shape_of-out c = c.loop-i.invariant.long

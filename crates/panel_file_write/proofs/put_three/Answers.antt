@@ -23,5 +23,5 @@ returns c =
     let w = field-length a.width a.a in
     let v = field-length a.width a.b in
     both a.out.now a.from (to_little_endian a.width a.a) _ _ _ _ _ (omega (arith, c.requires, w)) first.ensures
-    (both first.new.0 first.result (to_little_endian a.width a.b) _ _ _ _ _ (omega (arith, c.requires, w, v, first.ensures.behind, first.auto.0)) second.ensures
+    (both first.new.out first.result (to_little_endian a.width a.b) _ _ _ _ _ (omega (arith, c.requires, w, v, first.ensures.behind, first.auto.out)) second.ensures
     third.ensures)

@@ -45,7 +45,7 @@ loop-i-preserved c =
     ap (λ (k : ℕ). at a.a.now k ⊖ at a.x.now j) (sym (digits_div l.i m))
     ∙ ap (λ (k : ℕ). at a.a.now ((l.i * a.n + j) / a.n) ⊖ at a.x.now k) (sym (digits_mod l.i m)) in (
       omega (arith, h),
-      r.auto.1.1.1.1.0 ∙ l.invariant.1,
+      r.auto.out ∙ l.invariant.1,
       row_next a.out.now l.out _ a.n (difference a.a.now a.x.now a.n) row l.i h l.invariant.2 r.ensures same,
     )
 

@@ -29,9 +29,9 @@ norms-requires c =
     let y = c.differences-2 in
     let z = c.differences-3 in
     let f = pairs_fit c.args.n c.requires.n_le_max_points.0 in
-    let long-x : length x.new.1.1.1.0 ≡ 49 = x.auto.1.1.1.0 in
-    let long-y : length y.new.1.1.1.0 ≡ 49 = y.auto.1.1.1.0 in
-    let long-z : length z.new.1.1.1.0 ≡ 49 = z.auto.1.1.1.0 in
+    let long-x : length x.new.out ≡ 49 = x.auto.out in
+    let long-y : length y.new.out ≡ 49 = y.auto.out in
+    let long-z : length z.new.out ≡ 49 = z.auto.out in
     record { count_in_bounds = (omega (arith, f), omega (arith, f), omega (arith, f)); count_le_max_pairs = (f, c.requires.n_le_max_points.1) }
 
 pub returns : goal.returns
@@ -44,7 +44,7 @@ returns c =
     c.norms.ensures
     ∙ front_same a.out.now p _ (distance a.a.now a.b.now a.c.now a.x.now a.y.now a.z.now a.n)
     (λ k m.
-    distance_is x.new.1.1.1.0 y.new.1.1.1.0 z.new.1.1.1.0 a.a.now a.b.now a.c.now a.x.now a.y.now a.z.now a.n k
+    distance_is x.new.out y.new.out z.new.out a.a.now a.b.now a.c.now a.x.now a.y.now a.z.now a.n k
     (front_at _ _ p (difference a.a.now a.x.now a.n) k x.ensures m)
     (front_at _ _ p (difference a.b.now a.y.now a.n) k y.ensures m)
     (front_at _ _ p (difference a.c.now a.z.now a.n) k z.ensures m))

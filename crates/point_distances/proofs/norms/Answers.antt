@@ -12,7 +12,7 @@ pub estimates-requires : goal.estimates-requires
 estimates-requires c =
     let h = c.requires.count_le_max_pairs.0 in
     let s = c.square_lanes in
-    let long : length s.new.1.1.1.1.0 ≡ 49 = s.auto.1.1.1.1.0 in
+    let long : length s.new.out ≡ 49 = s.auto.out in
     (omega (arith, h), h)
 
 pub lengths-requires : goal.lengths-requires
@@ -20,9 +20,9 @@ lengths-requires c =
     let h = c.requires.count_le_max_pairs.0 in
     let s = c.square_lanes in
     let g = c.estimates in
-    let squares : length s.new.1.1.1.1.0 ≡ 49 = s.auto.1.1.1.1.0 in
-    let roots : length g.new.1.1.0 ≡ 49 = g.auto.1.1.0 in
-    record { count_in_bounds = c.requires.count_in_bounds; count_in_bounds_2 = (omega (arith, h), omega (arith, h), c.requires.count_le_max_pairs.1); by_index = s.ensures.1 }
+    let squares : length s.new.out ≡ 49 = s.auto.out in
+    let roots : length g.new.out ≡ 49 = g.auto.out in
+    record { count_in_bounds = c.requires.count_in_bounds; count_in_bounds_2 = (omega (arith, h), omega (arith, h), c.requires.count_le_max_pairs.1); by_index = s.ensures.by_index }
 
 pub returns : goal.returns
 returns c = c.lengths.ensures

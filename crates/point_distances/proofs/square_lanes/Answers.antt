@@ -18,9 +18,9 @@ loop-k-preserved c =
     let a = c.args in
     let l = c.loop-k in
     let s = c.square_lane in (
-      front_further l.invariant.0 (omega arith) refl s.ensures.0,
+      front_further l.invariant.0 (omega arith) refl s.ensures.value,
       one_more (λ (j : ℕ). SquareOf (point a.x.now a.y.now a.z.now j) (square_at a.x.now a.y.now a.z.now j)) l.k l.invariant.1
-          (subst (SquareOf (point a.x.now a.y.now a.z.now l.k)) s.ensures.0 s.ensures.1),
+          (subst (SquareOf (point a.x.now a.y.now a.z.now l.k)) s.ensures.value s.ensures.square_of),
     )
 
 pub returns : goal.returns

@@ -14,8 +14,8 @@ pub loop-i-preserved : goal.loop-i-preserved
 loop-i-preserved c =
     let l = c.loop-i in
     let s = c.square_lane in (
-      filled_next (omega arith) s.ensures.0 l.invariant.0,
-      one_more _ l.i l.invariant.1 (λ n. sym s.ensures.0 ∙ s.ensures.1 (ap is_nan s.ensures.0 ∙ n)),
+      filled_next (omega arith) s.ensures.value l.invariant.0,
+      one_more _ l.i l.invariant.1 (λ n. sym s.ensures.value ∙ s.ensures.square_of (ap is_nan s.ensures.value ∙ n)),
     )
 
 pub returns : goal.returns

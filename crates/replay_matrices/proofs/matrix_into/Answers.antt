@@ -3,21 +3,15 @@ use native.Mathlib.Omega.{arith}
 use Rattle.lists.proofs.Indices.{index_fits}
 use Rattle.replay_matrices.specs.Matrices.{matrix_into}
 use Rattle.replay_matrices.proofs.matrix_into.Goals as goal
-use Rattle.replay_matrices.proofs.matrix_into.Tie as tie
-
--- the call, seen from behind the comparisons
-abbrev call : tie.After-held-b → tie.After-triangle_mesh_inductance_matrix-refusal
-call c =
-    c
 
 pub returns : goal.returns
 unfolding matrix_into
 returns c =
-    let e = (call c).triangle-mesh-inductance-matrix.ensures in
+    let e = c.triangle_mesh_inductance_matrix-refusal.ensures in
     rw (← e.refusal, ← e.cells, ← c.same_word-a.ensures, ← c.held-b.ensures)
 
 pub overflow_add-k : goal.overflow_add-k
 overflow_add-k c = index_fits (omega arith)
 
 pub shape_of-out : goal.shape_of-out
-shape_of-out c = (call c).triangle-mesh-inductance-matrix.auto.1.1.1.1.1.1.1.0
+shape_of-out c = c.triangle_mesh_inductance_matrix-refusal.auto.1.1.1.1.1.1.1.0

@@ -5,50 +5,26 @@ use native.Mathlib.Nat.{le-add_right}
 use borrow.Author.Rules.{zero≤}
 use Rattle.replay_words.proofs.Copy.{copy_long}
 use Rattle.replay_columns.proofs.Leaving.{cells_short, column_short}
-use Rattle.replay_move.proofs.Moved.{Places, behind_inside, behind-mesh, places, results_inside}
+use Rattle.replay_move.proofs.Moved.{behind_inside, behind-mesh, results_inside}
 use Rattle.replay_move.proofs.move_of.Goals as goal
-use Rattle.replay_move.proofs.move_of.Tie as tie
-
--- each place seen from a later one: the entry, where the matrix's length is read, where nothing is copied yet, where all is
-abbrev entry : tie.After-shared_slice_known-6-1 → tie.Start
-entry c =
-    c
-
-abbrev cut : tie.After-vector-place → tie.After-cut_at-n
-cut c = c
-
-abbrev uncopied : tie.After-copied-cs → tie.After-vector-place
-uncopied c = c
-
-abbrev copied : tie.After-cs-1 → tie.After-copied-cs
-copied c = c
-
-within : (c : tie.After-cut_at-n) → Places (entry c).args.g c.cut_at-n.result
-within c = places _ _ (entry c).requires.0 c.cut_at-n.ensures.1
 
 pub copied-cs-requires : goal.copied-cs-requires
-copied-cs-requires c = cells_short _ _ _ _ (cut c).cut_at.ensures.1
+copied-cs-requires c = cells_short _ _ _ _ c.cut_at-n.ensures.1
 
 pub move_into-requires : goal.move_into-requires
 move_into-requires c =
-    let d = copied c in
-    let n = cut (uncopied d) in
-    let s = entry n.before in
-    let a = s.args in
-    let l = results_inside a.g n.cut_at.result (length a.x.now) (length a.y.now) (length a.z.now) (drop (a.g + 1) a.f.now) s.pre n.cut_at.ensures.1 in
-    record { z0_bound = l; x_value = (d.before.before.before.copied.ensures, d.before.before.copied2.ensures, d.before.copied3.ensures, d.copied4.ensures) }
+    let a = c.args in
+    let l = results_inside a.g c.cut_at-n.result (length a.x.now) (length a.y.now) (length a.z.now) (drop (a.g + 1) a.f.now) c.requires c.cut_at-n.ensures.1 in
+    record { z0_bound = l; x_value = (c.copied-xs.ensures, c.copied-ys.ensures, c.copied-zs.ensures, c.copied-cs.ensures) }
 
 pub returns : goal.returns
 returns c =
-    let d = copied c in
-    let p = uncopied d in
-    let n = cut p in
-    let a = (entry n.before).args in
+    let a = c.args in
     behind-mesh a.rule a.f.now a.w.now a.g _ _ a.t0.now a.t1.now a.t2.now
-    n.cut_at.ensures.0 p.vector.ensures d.before.before.before.copied.ensures d.before.before.copied2.ensures d.before.copied3.ensures d.copied4.ensures c.move_into.ensures
+    c.cut_at-n.ensures.0 c.vector-place.ensures c.copied-xs.ensures c.copied-ys.ensures c.copied-zs.ensures c.copied-cs.ensures c.move_into.ensures
 
 pub cut_at-n-requires : goal.cut_at-n-requires
-cut_at-n-requires c = behind_inside _ (entry c).requires.0
+cut_at-n-requires c = behind_inside _ c.requires.0
 
 pub overflow_add-cells : goal.overflow_add-cells
 overflow_add-cells c = (within c).one
@@ -90,13 +66,13 @@ pub vector-place-requires : goal.vector-place-requires
 vector-place-requires c = (within c).vector
 
 pub copied-xs-requires : goal.copied-xs-requires
-copied-xs-requires c = column_short _ (entry (cut c).before).requires.1
+copied-xs-requires c = column_short _ c.requires.1
 
 pub copied-ys-requires : goal.copied-ys-requires
-copied-ys-requires c = column_short _ (entry (cut c).before).requires.2
+copied-ys-requires c = column_short _ c.requires.2
 
 pub copied-zs-requires : goal.copied-zs-requires
-copied-zs-requires c = column_short _ (entry (cut c).before).requires.3
+copied-zs-requires c = column_short _ c.requires.3
 
 pub slice_bounds-move_into-count : goal.slice_bounds-move_into-count
 slice_bounds-move_into-count c = zero≤
@@ -135,7 +111,7 @@ pub slice_bounds-cs-end : goal.slice_bounds-cs-end
 slice_bounds-cs-end c = copy_long _ _ c.copied-cs.ensures
 
 pub overflow_add-g-3 : goal.overflow_add-g-3
-overflow_add-g-3 c = (within (cut (uncopied (copied c)))).five
+overflow_add-g-3 c = (within c).five
 
 pub overflow_add-g-4 : goal.overflow_add-g-4
-overflow_add-g-4 c = (within (cut (uncopied (copied c)))).results
+overflow_add-g-4 c = (within c).results

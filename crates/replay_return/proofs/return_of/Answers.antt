@@ -9,45 +9,25 @@ use Rattle.replay_words.proofs.Copy.{copy_long}
 use Rattle.replay_columns.proofs.Leaving.{cells_short, column_short}
 use Rattle.replay_return.proofs.Returned.{Places, behind-mesh, mesh_inside, places, store_inside}
 use Rattle.replay_return.proofs.return_of.Goals as goal
-use Rattle.replay_return.proofs.return_of.Tie as tie
-
--- each place seen from a later one: the entry, where the matrix's length is read, where all is copied
-abbrev entry : tie.After-shared_slice_known-6-1 → tie.Start
-entry c =
-    c
-
-abbrev cut : tie.After-copied-cs → tie.After-cut_at
-cut c =
-    c
-
-abbrev copied : tie.After-cs-1 → tie.After-copied-cs
-copied c = c
-
-within : (c : tie.After-cut_at) → Places (entry c).args.g c.cut_at.result
-within c = places _ _ (entry c).requires.0 c.cut_at.ensures.1
 
 pub return_into-requires : goal.return_into-requires
 return_into-requires c =
-    let d = copied c in
-    let n = cut d in
-    let s = entry n.before in
-    let a = s.args in
-    let l = store_inside a.g n.cut_at.result (length a.x.now) (length a.y.now) (length a.z.now) (drop (a.g + 1) a.f.now) s.pre n.cut_at.ensures.1 in
-    record { q_bound = ((within n).store, l); x_value = (d.before.before.before.copied.ensures, d.before.before.copied2.ensures, d.before.copied3.ensures, d.copied4.ensures) }
+    let within : Places c.args.g c.cut_at.result = places _ _ c.requires.0 c.cut_at.ensures.1 in
+    let a = c.args in
+    let l = store_inside a.g c.cut_at.result (length a.x.now) (length a.y.now) (length a.z.now) (drop (a.g + 1) a.f.now) c.requires c.cut_at.ensures.1 in
+    record { q_bound = (within.store, l); x_value = (c.copied-xs.ensures, c.copied-ys.ensures, c.copied-zs.ensures, c.copied-cs.ensures) }
 
 pub returns : goal.returns
 returns c =
-    let d = copied c in
-    let n = cut d in
-    let a = (entry n.before).args in
+    let a = c.args in
     behind-mesh a.rule a.b.now a.f.now a.w.now a.g _ a.t0.now a.t1.now a.t2.now
-    n.cut_at.ensures.0 d.before.before.before.copied.ensures d.before.before.copied2.ensures d.before.copied3.ensures d.copied4.ensures c.return_into.ensures
+    c.cut_at.ensures.0 c.copied-xs.ensures c.copied-ys.ensures c.copied-zs.ensures c.copied-cs.ensures c.return_into.ensures
 
 pub overflow_add-q : goal.overflow_add-q
 overflow_add-q c = index_fits (omega arith)
 
 pub cut_at-requires : goal.cut_at-requires
-cut_at-requires c = mesh_inside _ (entry c).requires.0
+cut_at-requires c = mesh_inside _ c.requires.0
 
 pub overflow_add-q-2 : goal.overflow_add-q-2
 overflow_add-q-2 c = (within c).matrix_end
@@ -65,13 +45,13 @@ pub slice_bounds-cells-start : goal.slice_bounds-cells-start
 slice_bounds-cells-start c = le-add_right _ _
 
 pub copied-xs-requires : goal.copied-xs-requires
-copied-xs-requires c = column_short _ (entry c).requires.1
+copied-xs-requires c = column_short _ c.requires.1
 
 pub copied-ys-requires : goal.copied-ys-requires
-copied-ys-requires c = column_short _ (entry c).requires.2
+copied-ys-requires c = column_short _ c.requires.2
 
 pub copied-zs-requires : goal.copied-zs-requires
-copied-zs-requires c = column_short _ (entry c).requires.3
+copied-zs-requires c = column_short _ c.requires.3
 
 pub copied-cs-requires : goal.copied-cs-requires
 copied-cs-requires c = cells_short _ _ _ _ c.cut_at.ensures.1

@@ -5,56 +5,35 @@ use borrow.Author.Rules.{zero≤}
 use Rattle.replay_words.proofs.Copy.{copy_long}
 use Rattle.replay_shapes.proofs.Compared.{name_inside, part_short, store_inside, store_of_parts, stores_alike}
 use Rattle.replay_shapes.proofs.save_of.Goals as goal
-use Rattle.replay_shapes.proofs.save_of.Tie as tie
-
--- each place seen from a later one: the entry, where the store is read and nothing is copied yet, where all is
-abbrev read : tie.After-copied-k → tie.After-part_at-e
-read c =
-    c
-
-abbrev entry : tie.After-shared_slice_known-6-1 → tie.Start
-entry c =
-    c
-
-abbrev copied : tie.After-k-1 → tie.After-copied-k
-copied c =
-    c
 
 pub save_into-requires : goal.save_into-requires
 save_into-requires c =
-    let d = copied c in
-    let r = read d in
-    let z = r.before in
-    let e = name_inside _ _ (entry z.before.before.before.before.before).requires r.part_at.ensures.1 in record { e_bound = (e, (z.before.before.numbers-part.ensures.1, z.before.numbers-part2.ensures.1, z.numbers-part3.ensures.1)); sz_value = stores_alike d.before.before.before.before.copied-bytes.ensures d.before.before.before.copied-bytes2.ensures d.before.before.copied.ensures d.before.copied2.ensures d.copied3.ensures }
+    let e = name_inside _ _ c.requires c.part_at-e.ensures.1 in record { e_bound = (e, (c.numbers_part-sx.ensures.1, c.numbers_part-sy.ensures.1, c.numbers_part-sz.ensures.1)); sz_value = stores_alike c.copied_bytes-m.ensures c.copied_bytes-n.ensures c.copied-i.ensures c.copied-j.ensures c.copied-k.ensures }
 
 pub returns : goal.returns
 returns c =
-    let d = copied c in
-    let r = read d in
-    let z = r.before in
-    let y = z.before.before.before in
     let store = store_of_parts _ _ _ _
-    (d.before.before.before.before.copied-bytes.ensures ∙ y.before.bytes-part.ensures.0) (d.before.before.before.copied-bytes2.ensures ∙ y.bytes-part2.ensures.0)
-    (d.before.before.copied.ensures ∙ z.before.before.numbers-part.ensures.0) (d.before.copied2.ensures ∙ z.before.numbers-part2.ensures.0) (d.copied3.ensures ∙ z.numbers-part3.ensures.0) in
-    rw (← store, ← r.part_at.ensures.0) c.save_into.ensures
+    (c.copied_bytes-m.ensures ∙ c.bytes_part-marks.ensures.0) (c.copied_bytes-n.ensures ∙ c.bytes_part-names.ensures.0)
+    (c.copied-i.ensures ∙ c.numbers_part-sx.ensures.0) (c.copied-j.ensures ∙ c.numbers_part-sy.ensures.0) (c.copied-k.ensures ∙ c.numbers_part-sz.ensures.0) in
+    rw (← store, ← c.part_at-e.ensures.0) c.save_into.ensures
 
 pub bytes_part-marks-requires : goal.bytes_part-marks-requires
-bytes_part-marks-requires c = (store_inside _ (entry c).requires, le-add_right 0 1)
+bytes_part-marks-requires c = (store_inside _ c.requires, le-add_right 0 1)
 
 pub bytes_part-names-requires : goal.bytes_part-names-requires
-bytes_part-names-requires c = (store_inside _ (entry c).requires, le-add_right 1 0)
+bytes_part-names-requires c = (store_inside _ c.requires, le-add_right 1 0)
 
 pub numbers_part-sx-requires : goal.numbers_part-sx-requires
-numbers_part-sx-requires c = (store_inside _ (entry c).requires, le-add_right 2 2)
+numbers_part-sx-requires c = (store_inside _ c.requires, le-add_right 2 2)
 
 pub numbers_part-sy-requires : goal.numbers_part-sy-requires
-numbers_part-sy-requires c = (store_inside _ (entry c).requires, le-add_right 3 1)
+numbers_part-sy-requires c = (store_inside _ c.requires, le-add_right 3 1)
 
 pub numbers_part-sz-requires : goal.numbers_part-sz-requires
-numbers_part-sz-requires c = (store_inside _ (entry c).requires, le-add_right 4 0)
+numbers_part-sz-requires c = (store_inside _ c.requires, le-add_right 4 0)
 
 pub part_at-e-requires : goal.part_at-e-requires
-part_at-e-requires c = (store_inside _ (entry c).requires, le-add_right 5 0)
+part_at-e-requires c = (store_inside _ c.requires, le-add_right 5 0)
 
 pub copied_bytes-m-requires : goal.copied_bytes-m-requires
 copied_bytes-m-requires c = c.bytes_part-marks.ensures.1

@@ -13,7 +13,7 @@ loop-row-init c =
 
 pub clear_row-requires : goal.clear_row-requires
 clear_row-requires c =
-    let links = c.link_marked.new.1.1.0 in
+    let links = c.link_marked.new.links in
     row_ready c.args.marks.now links c.loop-row.invariant c.requires c.loop-row-test.true (search rules) c.link_marked.ensures
 
 pub loop-row-preserved : goal.loop-row-preserved

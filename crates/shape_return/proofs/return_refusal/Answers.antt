@@ -15,86 +15,77 @@ use Rattle.shape_store.proofs.Places.{store_off, place-within}
 use Rattle.shape_return.specs.Return.{named_shape, shape_checks, shape_refusal}
 use Rattle.shape_return.proofs.Numbers.{place-room}
 use Rattle.shape_return.proofs.return_refusal.Goals as goal
-use Rattle.shape_return.proofs.return_refusal.Tie as tie
-
-abbrev lent : tie.Start → Mesh
-lent c = let a = c.args in mesh_of a.x.now a.y.now a.z.now a.t0.now a.t1.now a.t2.now
-
-abbrev store : tie.Start → Store
-store c = let a = c.args in store_of a.marks.now a.names.now a.sx.now a.sy.now a.sz.now
-
-abbrev entry : tie.Else-refusal-ne0 → tie.Start
-entry c =
-    c
-
-passed : (c : tie.Else-refusal-ne0) → let s = entry c in
-    shape_refusal (lent s) (store s) s.args.name.now s.args.size ≡ first (shape_checks (lent s) (store s) s.args.name.now s.args.size)
-unfolding shape_refusal
-passed c =
-    let s = entry c in
-    mesh-passed max_nodes max_panels (lent s) (shape_checks (lent s) (store s) s.args.name.now s.args.size) _ c.mesh_refusal-refusal.ensures c.if-refusal-ne0.false
-
--- behind the lengths
-sized : (c : tie.Else-store_differs-size) → StoreSized (nnode (lent (entry c))) (store (entry c))
-sized c = (store_off _ (store (entry c))).0 (sym c.store_differs.ensures ∙ (or_off _ _ c.if-store_differs-size.false).0)
-
--- behind the name
-within : (c : tie.Else-p-eq-PLACES) → c.find_name-p.result < places
-within c =
-    let s = entry c in
-    let e = c.find_name-p.ensures in
-    rw e (place-within (store s) s.args.name.now (ne_eqb _ _ (λ q. c.if-p-eq-PLACES.false (e ∙ q))))
-
--- the columns that are tested are the shape's
-tested : (c : tie.After-mesh_refusal)
-    → let s = entry c in
-    mesh_of c.stretch-px.result.now c.stretch-py.result.now c.stretch-pz.result.now s.args.t0.now s.args.t1.now s.args.t2.now
-    ≡ named_shape (lent s) (store s) s.args.name.now
-tested c =
-    let s = entry c in
-    let a = s.args in
-    let p = c.find_name-p.ensures in
-    let x = c.stretch-px.ensures ∙ ap (stretch a.sx.now (nnode (lent s))) p in
-    let y = c.stretch-py.ensures ∙ ap (stretch a.sy.now (nnode (lent s))) p in
-    let z = c.stretch-pz.ensures ∙ ap (stretch a.sz.now (nnode (lent s))) p in
-    λ i. mesh_of (x i) (y i) (z i) a.t0.now a.t1.now a.t2.now
 
 pub returns-then-refusal-ne0 : goal.returns-then-refusal-ne0
 unfolding shape_refusal
 returns-then-refusal-ne0 c = mesh_stopped _ _ _ _ _ c.mesh_refusal-refusal.ensures c.if-refusal-ne0.true
 
 pub store_differs-requires : goal.store_differs-requires
-store_differs-requires c = ((numbered max_nodes max_panels (lent (entry c))).is_0.0 (sym c.mesh_refusal-refusal.ensures ∙ c.if-refusal-ne0.false)).limits.few_nodes
+store_differs-requires c =
+    let lent : Mesh = let a = c.args in mesh_of a.x.now a.y.now a.z.now a.t0.now a.t1.now a.t2.now in
+    ((numbered max_nodes max_panels lent).is_0.0 (sym c.mesh_refusal-refusal.ensures ∙ c.if-refusal-ne0.false)).limits.few_nodes
 
 pub overflow_mul-n : goal.overflow_mul-n
-overflow_mul-n c = omega (arith, few_cells (lent (entry c)) _ c.mesh_refusal-refusal.ensures c.if-refusal-ne0.false)
+overflow_mul-n c =
+    let lent : Mesh = let a = c.args in mesh_of a.x.now a.y.now a.z.now a.t0.now a.t1.now a.t2.now in
+    omega (arith, few_cells lent _ c.mesh_refusal-refusal.ensures c.if-refusal-ne0.false)
 
 pub returns-then-store_differs-size : goal.returns-then-store_differs-size
-unfolding first
-returns-then-store_differs-size c = rw (passed c, ← c.store_differs.ensures, c.if-store_differs-size.true)
+unfolding first shape_refusal
+returns-then-store_differs-size c =
+    let lent : Mesh = let a = c.args in mesh_of a.x.now a.y.now a.z.now a.t0.now a.t1.now a.t2.now in
+    let store : Store = let a = c.args in store_of a.marks.now a.names.now a.sx.now a.sy.now a.sz.now in
+    let passed : shape_refusal lent store c.args.name.now c.args.size ≡ first (shape_checks lent store c.args.name.now c.args.size) = mesh-passed max_nodes max_panels lent (shape_checks lent store c.args.name.now c.args.size) _ c.mesh_refusal-refusal.ensures c.if-refusal-ne0.false in
+    rw (passed, ← c.store_differs.ensures, c.if-store_differs-size.true)
 
 pub find_name-p-requires : goal.find_name-p-requires
-find_name-p-requires c = ((sized c).marks-long, (sized c).names-long)
+find_name-p-requires c =
+    let lent : Mesh = let a = c.args in mesh_of a.x.now a.y.now a.z.now a.t0.now a.t1.now a.t2.now in
+    let store : Store = let a = c.args in store_of a.marks.now a.names.now a.sx.now a.sy.now a.sz.now in
+    let sized : StoreSized (nnode lent) store = (store_off _ store).0 (sym c.store_differs.ensures ∙ (or_off _ _ c.if-store_differs-size.false).0) in
+    (sized.marks-long, sized.names-long)
 
 pub returns-then-p-eq-PLACES : goal.returns-then-p-eq-PLACES
-unfolding first
+unfolding first shape_refusal
 returns-then-p-eq-PLACES c =
-    rw (passed c, ← c.store_differs.ensures, c.if-store_differs-size.false, ← c.find_name-p.ensures, eq-eqb _ _ c.if-p-eq-PLACES.true)
+    let lent : Mesh = let a = c.args in mesh_of a.x.now a.y.now a.z.now a.t0.now a.t1.now a.t2.now in
+    let store : Store = let a = c.args in store_of a.marks.now a.names.now a.sx.now a.sy.now a.sz.now in
+    let passed : shape_refusal lent store c.args.name.now c.args.size ≡ first (shape_checks lent store c.args.name.now c.args.size) = mesh-passed max_nodes max_panels lent (shape_checks lent store c.args.name.now c.args.size) _ c.mesh_refusal-refusal.ensures c.if-refusal-ne0.false in
+    rw (passed, ← c.store_differs.ensures, c.if-store_differs-size.false, ← c.find_name-p.ensures, eq-eqb _ _ c.if-p-eq-PLACES.true)
 
 pub stretch-px-requires : goal.stretch-px-requires
-stretch-px-requires c = place-room _ _ _ (sized c).columns.first (within c)
+stretch-px-requires c =
+    let lent : Mesh = let a = c.args in mesh_of a.x.now a.y.now a.z.now a.t0.now a.t1.now a.t2.now in
+    let store : Store = let a = c.args in store_of a.marks.now a.names.now a.sx.now a.sy.now a.sz.now in
+    let sized : StoreSized (nnode lent) store = (store_off _ store).0 (sym c.store_differs.ensures ∙ (or_off _ _ c.if-store_differs-size.false).0) in
+    let within : c.find_name-p.result < places = let e = c.find_name-p.ensures in rw e (place-within store c.args.name.now (ne_eqb _ _ (λ q. c.if-p-eq-PLACES.false (e ∙ q)))) in
+    place-room _ _ _ sized.columns.first within
 
 pub stretch-py-requires : goal.stretch-py-requires
-stretch-py-requires c = place-room _ _ _ (sized c).columns.second (within c)
+stretch-py-requires c =
+    let lent : Mesh = let a = c.args in mesh_of a.x.now a.y.now a.z.now a.t0.now a.t1.now a.t2.now in
+    let store : Store = let a = c.args in store_of a.marks.now a.names.now a.sx.now a.sy.now a.sz.now in
+    let sized : StoreSized (nnode lent) store = (store_off _ store).0 (sym c.store_differs.ensures ∙ (or_off _ _ c.if-store_differs-size.false).0) in
+    let within : c.find_name-p.result < places = let e = c.find_name-p.ensures in rw e (place-within store c.args.name.now (ne_eqb _ _ (λ q. c.if-p-eq-PLACES.false (e ∙ q)))) in
+    place-room _ _ _ sized.columns.second within
 
 pub stretch-pz-requires : goal.stretch-pz-requires
-stretch-pz-requires c = place-room _ _ _ (sized c).columns.third (within c)
+stretch-pz-requires c =
+    let lent : Mesh = let a = c.args in mesh_of a.x.now a.y.now a.z.now a.t0.now a.t1.now a.t2.now in
+    let store : Store = let a = c.args in store_of a.marks.now a.names.now a.sx.now a.sy.now a.sz.now in
+    let sized : StoreSized (nnode lent) store = (store_off _ store).0 (sym c.store_differs.ensures ∙ (or_off _ _ c.if-store_differs-size.false).0) in
+    let within : c.find_name-p.result < places = let e = c.find_name-p.ensures in rw e (place-within store c.args.name.now (ne_eqb _ _ (λ q. c.if-p-eq-PLACES.false (e ∙ q)))) in
+    place-room _ _ _ sized.columns.third within
 
 pub returns : goal.returns
-unfolding first mesh_refusal
+unfolding first mesh_refusal shape_refusal
 returns c =
-    let s = entry c in
+    let lent : Mesh = let a = c.args in mesh_of a.x.now a.y.now a.z.now a.t0.now a.t1.now a.t2.now in
+    let store : Store = let a = c.args in store_of a.marks.now a.names.now a.sx.now a.sy.now a.sz.now in
+    let passed : shape_refusal lent store c.args.name.now c.args.size ≡ first (shape_checks lent store c.args.name.now c.args.size) = mesh-passed max_nodes max_panels lent (shape_checks lent store c.args.name.now c.args.size) _ c.mesh_refusal-refusal.ensures c.if-refusal-ne0.false in
+    let tested : mesh_of c.stretch-px.result.now c.stretch-py.result.now c.stretch-pz.result.now c.args.t0.now c.args.t1.now c.args.t2.now
+    ≡ named_shape lent store c.args.name.now = let a = c.args in let p = c.find_name-p.ensures in let x = c.stretch-px.ensures ∙ ap (stretch a.sx.now (nnode lent)) p in let y = c.stretch-py.ensures ∙ ap (stretch a.sy.now (nnode lent)) p in let z = c.stretch-pz.ensures ∙ ap (stretch a.sz.now (nnode lent)) p in λ i. mesh_of (x i) (y i) (z i) a.t0.now a.t1.now a.t2.now in
     let p = c.find_name-p.ensures in
-    let own : first (shape_checks (lent s) (store s) s.args.name.now s.args.size) ≡ mesh_refusal max_nodes max_panels (named_shape (lent s) (store s) s.args.name.now) =
+    let own : first (shape_checks lent store c.args.name.now c.args.size) ≡ mesh_refusal max_nodes max_panels (named_shape lent store c.args.name.now) =
     rw (← c.store_differs.ensures, c.if-store_differs-size.false, ne_eqb _ _ (λ q. c.if-p-eq-PLACES.false (p ∙ q))) in
-    c.mesh_refusal.ensures ∙ ap (mesh_refusal max_nodes max_panels) (tested c) ∙ sym (passed c ∙ own)
+    c.mesh_refusal.ensures ∙ ap (mesh_refusal max_nodes max_panels) tested ∙ sym (passed ∙ own)

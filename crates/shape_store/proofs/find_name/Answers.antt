@@ -9,10 +9,6 @@ use borrow.Author.Rules.{rules}
 use Rattle.shape_store.specs.Store.{Store, store_of, places, holds_name}
 use Rattle.lists.proofs.First.{first_is, none_is}
 use Rattle.shape_store.proofs.find_name.Goals as goal
-use Rattle.shape_store.proofs.find_name.Tie as tie
-
-abbrev lent : tie.Start invariant-loop decreases-loop → Store
-lent s = store_of s.args.marks.now s.args.names.now [] [] []
 
 pub loop-p-init : goal.loop-p-init
 loop-p-init c = (omega arith, below_none _)
@@ -25,7 +21,8 @@ same_name-requires c =
 
 pub returns-then-marks-p : goal.returns-then-marks-p
 returns-then-marks-p c =
-    first_is (holds_name (lent c) c.args.name.now) places c.loop-p.p (omega arith) c.loop-p.invariant.1 (rw (← c.same_name.ensures) c.if-marks-p.true)
+    let lent : Store = store_of c.args.marks.now c.args.names.now [] [] [] in
+    first_is (holds_name lent c.args.name.now) places c.loop-p.p (omega arith) c.loop-p.invariant.1 (rw (← c.same_name.ensures) c.if-marks-p.true)
 
 pub loop-p-preserved : goal.loop-p-preserved
 loop-p-preserved c =
@@ -33,6 +30,7 @@ loop-p-preserved c =
 
 pub returns : goal.returns
 returns c =
+    let lent : Store = store_of c.args.marks.now c.args.names.now [] [] [] in
     let l = c.loop-p in
     let e : l.p ≡ places = omega arith in
-    none_is (holds_name (lent c) c.args.name.now) places (rw e at l.invariant.1)
+    none_is (holds_name lent c.args.name.now) places (rw e at l.invariant.1)

@@ -9,11 +9,6 @@ use Rattle.square_root.proofs.Special.{own_root, zero_root, minus_zero_root, inf
 use Rattle.binary64.proofs.Root.Value.{sqrt_fits}
 use Rattle.binary64.specs.Format.{infinity_bits}
 use Rattle.square_root.proofs.exact_root.Goals as goal
-use Rattle.square_root.proofs.exact_root.Tie as tie
-
--- what owning an `f64` tells: the format holds it
-held : (c : tie.Start) → T (fits binary64 c.args.x)
-held c = subst T (sym c.well_formed.0.1) tt
 
 pub returns-then-x : goal.returns-then-x
 unfolding sqrt
@@ -24,7 +19,9 @@ float_to_bits-b c = self_equal c.args.x c.if-x.false
 
 pub returns-then-b-eq0 : goal.returns-then-b-eq0
 unfolding sqrt
-returns-then-b-eq0 c = let x = c.args.x in own_root x 0 (held c) (omega arith) zero_root
+returns-then-b-eq0 c =
+    let held : T (fits binary64 c.args.x) = subst T (sym c.well_formed.0.1) tt in
+    let x = c.args.x in own_root x 0 held (omega arith) zero_root
 
 pub float_from_bits-result : goal.float_from_bits-result
 float_from_bits-result c = no_nan c.exact_root_bits.result (omega arith)
@@ -32,25 +29,30 @@ float_from_bits-result c = no_nan c.exact_root_bits.result (omega arith)
 pub returns-then-b-lt-INFINITY_BITS : goal.returns-then-b-lt-INFINITY_BITS
 unfolding sqrt
 returns-then-b-lt-INFINITY_BITS c =
+    let held : T (fits binary64 c.args.x) = subst T (sym c.well_formed.0.1) tt in
     let x = c.args.x in
-    let h = held c in
+    let h = held in
     let o : of_bits binary64 (to_bits binary64 x) ≡ x = of_bits-to_bits binary64 x h in
     ap (λ (n : ℕ). of_bits binary64 n) (c.exact_root_bits.ensures.value ∙ ap (λ (y : Float). to_bits binary64 (square_root binary64 y)) o) ∙ of_bits-to_bits binary64 (square_root binary64 x) (sqrt_fits binary64 x h)
 
 pub returns-then-b-eq-INFINITY_BITS : goal.returns-then-b-eq-INFINITY_BITS
 unfolding sqrt
-returns-then-b-eq-INFINITY_BITS c = let x = c.args.x in own_root x infinity_bits (held c) (omega arith) infinity_root
+returns-then-b-eq-INFINITY_BITS c =
+    let held : T (fits binary64 c.args.x) = subst T (sym c.well_formed.0.1) tt in
+    let x = c.args.x in own_root x infinity_bits held (omega arith) infinity_root
 
 pub returns-then-b : goal.returns-then-b
 unfolding sqrt
 returns-then-b c =
-    let x = c.args.x in own_root x 0x8000_0000_0000_0000 (held c) (omega arith) minus_zero_root
+    let held : T (fits binary64 c.args.x) = subst T (sym c.well_formed.0.1) tt in
+    let x = c.args.x in own_root x 0x8000_0000_0000_0000 held (omega arith) minus_zero_root
 
 pub returns : goal.returns
 unfolding sqrt
 returns c =
+    let held : T (fits binary64 c.args.x) = subst T (sym c.well_formed.0.1) tt in
     let x = c.args.x in
-    let h = held c in
+    let h = held in
     let b = to_bits binary64 x in
     let u : b < 2 ^ 64 = to_bits-lt binary64 x h in
     let n : infinity_bits < b = omega arith in

@@ -5,10 +5,6 @@ use Rattle.binary64.proofs.Pattern.{self_equal}
 use Rattle.square_root.specs.Estimate as Estimate
 use Rattle.square_root.proofs.Test.{number-pattern}
 use Rattle.square_root.proofs.magnitude_or_one.Goals as goal
-use Rattle.square_root.proofs.magnitude_or_one.Tie as tie
-
-held : (c : tie.Start) → T (fits binary64 c.args.x)
-held c = subst T (sym c.well_formed.0.1) tt
 
 pub returns-then-x : goal.returns-then-x
 unfolding Estimate.magnitude_or_one
@@ -19,4 +15,6 @@ float_to_bits-result c = self_equal c.args.x c.if-x.false
 
 pub returns : goal.returns
 unfolding Estimate.magnitude_or_one
-returns c = let x = c.args.x in record { value = rw c.if-x.false; upper_bound = number-pattern x (held c) (self_equal x c.if-x.false) }
+returns c =
+    let held : T (fits binary64 c.args.x) = subst T (sym c.well_formed.0.1) tt in
+    let x = c.args.x in record { value = rw c.if-x.false; upper_bound = number-pattern x held (self_equal x c.if-x.false) }

@@ -8,11 +8,6 @@ use Rattle.square_root.specs.Estimate as Estimate
 use Rattle.binary64.proofs.Root.Value.{sqrt_fits}
 use Rattle.square_root.proofs.Test.{passed}
 use Rattle.square_root.proofs.passes.Goals as goal
-use Rattle.square_root.proofs.passes.Tie as tie
-
--- what owning an `f64` tells: the format holds it
-held : (c : tie.Start) → T (fits binary64 c.args.g)
-held c = subst T (sym c.well_formed.1.0.1) tt
 
 pub returns-then-g : goal.returns-then-g
 unfolding Estimate.passes
@@ -24,9 +19,10 @@ float_to_bits-g c = self_equal c.args.g c.if-g.false
 pub returns : goal.returns
 unfolding Estimate.passes sqrt
 returns c =
+    let held : T (fits binary64 c.args.g) = subst T (sym c.well_formed.1.0.1) tt in
     let b = c.args.b in
     let g = c.args.g in record { value = rw c.if-g.false c.is_root.ensures; g_value = λ t.
           let x = of_bits binary64 b in
-          sym (of_bits-to_bits binary64 g (held c))
+          sym (of_bits-to_bits binary64 g held)
           ∙ ap (λ (n : ℕ). of_bits binary64 n) (passed b (to_bits binary64 g) (omega arith) (omega arith) (subst T c.is_root.ensures t))
           ∙ of_bits-to_bits binary64 (square_root binary64 x) (sqrt_fits binary64 x (of_bits-fits binary64 b)) }

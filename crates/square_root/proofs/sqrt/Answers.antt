@@ -7,11 +7,6 @@ use Rattle.binary64.proofs.Pattern.{self_equal}
 use Rattle.binary64.specs.Operations.{sqrt}
 use Rattle.square_root.proofs.Special.{nan-root}
 use Rattle.square_root.proofs.sqrt.Goals as goal
-use Rattle.square_root.proofs.sqrt.Tie as tie
-
--- what owning an `f64` tells: the format holds it
-held : (c : tie.Start) → T (fits binary64 c.args.x)
-held c = subst T (sym c.well_formed.0.1) tt
 
 pub returns-then-x : goal.returns-then-x
 unfolding sqrt
@@ -22,7 +17,8 @@ float_to_bits-b c = self_equal c.args.x c.if-x.false
 
 pub returns-then-passes : goal.returns-then-passes
 returns-then-passes c =
-    c.passes.ensures.g_value (subst T (sym c.if-passes.true) tt) ∙ ap (λ (y : Float). sqrt y) (of_bits-to_bits binary64 c.args.x (held c))
+    let held : T (fits binary64 c.args.x) = subst T (sym c.well_formed.0.1) tt in
+    c.passes.ensures.g_value (subst T (sym c.if-passes.true) tt) ∙ ap (λ (y : Float). sqrt y) (of_bits-to_bits binary64 c.args.x held)
 
 pub returns : goal.returns
 returns c = c.exact_root.ensures

@@ -10,13 +10,6 @@ use Rattle.tri.proofs.Counts.{count-between}
 use Rattle.lists.proofs.Runs.{begun, one_further, next_room, all_run}
 use Rattle.mesh_points.specs.QuadraturePoints.{quadrature_weight}
 use Rattle.mesh_points.proofs.quadrature_points.fill_panel.Goals as goal
-use Rattle.mesh_points.proofs.quadrature_points.fill_panel.Tie as tie
-
-abbrev entry : tie.In-loop-k invariant-loop decreases-loop → tie.Start invariant-loop decreases-loop
-entry c = let c4 = c.before.before.before.before in c4.before.before.before.before
-
-below : (c : tie.In-loop-k invariant-loop decreases-loop) → c.loop-k.k < quadrature_count (entry c).args.kind
-below c = omega (arith, c.quadrature_count-count.ensures, c.loop-k-test.true)
 
 pub loop-k-init : goal.loop-k-init
 loop-k-init c =
@@ -24,38 +17,46 @@ loop-k-init c =
     (begun r.x, begun r.y, begun r.z, begun r.weights)
 
 pub quadrature_point-point-requires : goal.quadrature_point-point-requires
-quadrature_point-point-requires c = below c
+quadrature_point-point-requires c =
+    let below : c.loop-k.k < quadrature_count c.args.kind = omega (arith, c.quadrature_count-count.ensures, c.loop-k-test.true) in
+    below
 
 pub quadrature_weight-weight-requires : goal.quadrature_weight-weight-requires
-quadrature_weight-weight-requires c = below c
+quadrature_weight-weight-requires c =
+    let below : c.loop-k.k < quadrature_count c.args.kind = omega (arith, c.quadrature_count-count.ensures, c.loop-k-test.true) in
+    below
 
 pub overflow_add-start : goal.overflow_add-start
 overflow_add-start c =
-    let w = entry c in
-    omega (arith, below c, w.pre.x)
+    let below : c.loop-k.k < quadrature_count c.args.kind = omega (arith, c.quadrature_count-count.ensures, c.loop-k-test.true) in
+    omega (arith, below, c.requires.x)
 
 pub store_point-requires : goal.store_point-requires
 store_point-requires c =
+    let below : c.loop-k.k < quadrature_count c.args.kind = omega (arith, c.quadrature_count-count.ensures, c.loop-k-test.true) in
     let i = c.loop-k.invariant in
-    let h = below c in
+    let h = below in
     record { x = next_room i.0 h; y = next_room i.1 h; z = next_room i.2 h; weights = next_room i.3 h }
 
 pub overflow_add-k : goal.overflow_add-k
 overflow_add-k c =
-    omega (arith, below c, (count-between (entry c).args.kind).1)
+    let below : c.loop-k.k < quadrature_count c.args.kind = omega (arith, c.quadrature_count-count.ensures, c.loop-k-test.true) in
+    omega (arith, below, (count-between c.args.kind).1)
 
 pub loop-k-smaller : goal.loop-k-smaller
 loop-k-smaller c =
-    omega (arith, below c)
+    let below : c.loop-k.k < quadrature_count c.args.kind = omega (arith, c.quadrature_count-count.ensures, c.loop-k-test.true) in
+    omega (arith, below)
 
 pub loop-k-preserved : goal.loop-k-preserved
 unfolding quadrature_weight
 loop-k-preserved c =
+    let below : c.loop-k.k < quadrature_count c.args.kind = omega (arith, c.quadrature_count-count.ensures, c.loop-k-test.true) in
     let l = c.loop-k in
-    let h = below c in
+    let h = below in
     let e = c.store_point.ensures in
     let p = c.quadrature_point-point.ensures in
-    let w = c.quadrature_weight-weight.ensures ∙ ap (λ (v : Float). at (quadrature_row (entry c).args.kind l.k) 0 ⊗ v) c.area-area.ensures in (
+    let w = c.quadrature_weight-weight.ensures ∙ ap (λ (v : Float). at (quadrature_row c.args.kind l.k) 0 ⊗ v) c.area-area.ensures in (
       one_further l.invariant.0 h e.x (ap (λ (v : List Float). at v 0) p),
       one_further l.invariant.1 h e.y (ap (λ (v : List Float). at v 1) p),
       one_further l.invariant.2 h e.z (ap (λ (v : List Float). at v 2) p),

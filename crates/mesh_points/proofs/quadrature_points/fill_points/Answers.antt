@@ -9,17 +9,6 @@ use Rattle.mesh_points.specs.QuadraturePoints.{mesh_points, mesh_weights}
 use Rattle.mesh_points.proofs.Panels.{panels_begun, panels-long, panel_room, panel_more, panels_end}
 use Rattle.mesh_points.proofs.quadrature_points.fill_points.Invariants.{coordinate}
 use Rattle.mesh_points.proofs.quadrature_points.fill_points.Goals as goal
-use Rattle.mesh_points.proofs.quadrature_points.fill_points.Tie as tie
-
-abbrev entry : tie.In-loop-i invariant-loop decreases-loop → tie.Start invariant-loop decreases-loop
-entry c =
-    let c4 = c.before.before.before.before in
-    let c8 = c4.before.before.before.before in
-    let c12 = c8.before.before.before.before in
-    c12.before
-
-below : (c : tie.In-loop-i invariant-loop decreases-loop) → c.loop-i.i < length (entry c).args.t0.now
-below c = omega (arith, c.loop-i-test.true)
 
 pub loop-i-init : goal.loop-i-init
 loop-i-init c =
@@ -28,21 +17,23 @@ loop-i-init c =
 
 pub triangle_nodes-t-requires : goal.triangle_nodes-t-requires
 triangle_nodes-t-requires c =
-    let m = (entry c).requires.accepted in
-    record { node_columns_alike = m.nodes_alike; panel_columns_alike = m.panels_alike; i_in_bounds = (below c, m.none_missing c.loop-i.i (below c)) }
+    let below : c.loop-i.i < length c.args.t0.now = omega (arith, c.loop-i-test.true) in
+    let m = c.requires.accepted in
+    record { node_columns_alike = m.nodes_alike; panel_columns_alike = m.panels_alike; i_in_bounds = (below, m.none_missing c.loop-i.i below) }
 
 pub overflow_mul-i : goal.overflow_mul-i
 overflow_mul-i c =
-    let w = entry c in
+    let below : c.loop-i.i < length c.args.t0.now = omega (arith, c.loop-i-test.true) in
     let l = c.loop-i in
-    let few : l.i ≤ 8192 = omega (arith, below c, w.pre.accepted.limits.few_panels) in
-    let small : c.quadrature_count-count.result ≤ 7 = omega (arith, c.quadrature_count-count.ensures, (count-between w.args.kind).1) in
+    let few : l.i ≤ 8192 = omega (arith, below, c.requires.accepted.limits.few_panels) in
+    let small : c.quadrature_count-count.result ≤ 7 = omega (arith, c.quadrature_count-count.ensures, (count-between c.args.kind).1) in
     omega (arith, mul-le-mul few small)
 
 pub fill_panel-requires : goal.fill_panel-requires
 fill_panel-requires c =
+    let below : c.loop-i.i < length c.args.t0.now = omega (arith, c.loop-i-test.true) in
     let l = c.loop-i in
-    let h = below c in
+    let h = below in
     let k = ap (λ (n : ℕ). l.i * n) c.quadrature_count-count.ensures in
     record {
       x = omega (arith, k, panel_room l.invariant.0 h);
@@ -53,16 +44,19 @@ fill_panel-requires c =
 
 pub overflow_add-i : goal.overflow_add-i
 overflow_add-i c =
-    omega (arith, below c, (entry c).requires.accepted.limits.few_panels)
+    let below : c.loop-i.i < length c.args.t0.now = omega (arith, c.loop-i-test.true) in
+    omega (arith, below, c.requires.accepted.limits.few_panels)
 
 pub loop-i-smaller : goal.loop-i-smaller
 loop-i-smaller c =
-    omega (arith, below c)
+    let below : c.loop-i.i < length c.args.t0.now = omega (arith, c.loop-i-test.true) in
+    omega (arith, below)
 
 pub loop-i-preserved : goal.loop-i-preserved
 loop-i-preserved c =
+    let below : c.loop-i.i < length c.args.t0.now = omega (arith, c.loop-i-test.true) in
     let l = c.loop-i in
-    let h = below c in
+    let h = below in
     let k = ap (λ (n : ℕ). l.i * n) c.quadrature_count-count.ensures in
     let t = c.triangle_nodes-t.ensures in
     let e = c.fill_panel.ensures in
@@ -83,6 +77,7 @@ shape_of-pw c = panels-long c.loop-i.invariant.3
 pub returns : goal.returns
 unfolding mesh_points mesh_weights
 returns c =
+    let below : c.loop-i.i < length c.args.t0.now = omega (arith, c.loop-i-test.true) in
     let l = c.loop-i in
     let e : l.i ≡ length c.args.t0.now = omega (arith, c.loop-i-test.false, l.invariant.0.below) in
     record { x = panels_end l.invariant.0 e; y = panels_end l.invariant.1 e; z = panels_end l.invariant.2 e; weights = panels_end l.invariant.3 e }

@@ -5,14 +5,11 @@ use lib.Ieee.{binary64, fits}
 use Rattle.potential.specs.Potential as Spec
 use Rattle.potential.proofs.Finite.{left_out}
 use Rattle.potential.proofs.UniformTriangle.less_solid_angle.Goals as goal
-use Rattle.potential.proofs.UniformTriangle.less_solid_angle.Tie as tie
-
-held-value : (c : tie.Start) → T (fits binary64 c.args.value)
-held-value c = subst T (sym c.well_formed.1.1.1.0.1) tt
 
 pub returns-then-d-value : goal.returns-then-d-value
 unfolding Spec.less_solid_angle Spec.signed_solid_angle
 returns-then-d-value c =
+    let held-value : T (fits binary64 c.args.value) = subst T (sym c.well_formed.1.1.1.0.1) tt in
     rw (
       ← c.vector.ensures,
       ← c.sub3-r0.ensures,
@@ -21,7 +18,7 @@ returns-then-d-value c =
       ← c.vector-3.ensures,
       ← c.sub3-r2.ensures,
     )
-    (left_out c.sub3-r0.result c.sub3-r1.result c.sub3-r2.result c.args.d c.args.value (held-value c)
+    (left_out c.sub3-r0.result c.sub3-r1.result c.sub3-r2.result c.args.d c.args.value held-value
     (rw (c.moderate3.ensures, c.moderate3-2.ensures, c.moderate3-3.ensures) at c.if-d-value.true))
 
 pub returns : goal.returns

@@ -3,11 +3,6 @@ use native.Mathlib.Nat.{le-add_right}
 use Rattle.replay_columns.proofs.Mesh.{mesh_of_columns}
 use Rattle.replay_meshes.specs.Meshes.{with_mesh}
 use Rattle.replay_meshes.proofs.columns.with_mesh.Goals as goal
-use Rattle.replay_meshes.proofs.columns.with_mesh.Tie as tie
-
--- the entry, seen from behind the third column
-abbrev entry : tie.After-nodes-z → tie.Start
-entry c = c
 
 pub returns : goal.returns
 unfolding with_mesh
@@ -25,16 +20,16 @@ pub nodes-z-requires : goal.nodes-z-requires
 nodes-z-requires c = (c.requires, le-add_right 2 3)
 
 pub panels-t0-requires : goal.panels-t0-requires
-panels-t0-requires c = ((entry c).requires, le-add_right 3 2)
+panels-t0-requires c = (c.requires, le-add_right 3 2)
 
 pub panels-t1-requires : goal.panels-t1-requires
-panels-t1-requires c = ((entry c).requires, le-add_right 4 1)
+panels-t1-requires c = (c.requires, le-add_right 4 1)
 
 pub panels-t2-requires : goal.panels-t2-requires
-panels-t2-requires c = ((entry c).requires, le-add_right 5 0)
+panels-t2-requires c = (c.requires, le-add_right 5 0)
 
 pub column_at-g-requires : goal.column_at-g-requires
-column_at-g-requires c = ((entry c).requires, le-add_right 6 0)
+column_at-g-requires c = (c.requires, le-add_right 6 0)
 
 pub of_mesh-requires : goal.of_mesh-requires
 of_mesh-requires c = c.column_at-g.ensures.1

@@ -3,17 +3,11 @@ use native.Mathlib.Omega.{arith}
 use Rattle.lists.proofs.Indices.{index_fits}
 use Rattle.replay_meshes.specs.Meshes.{densities_into}
 use Rattle.replay_meshes.proofs.densities.densities_into.Goals as goal
-use Rattle.replay_meshes.proofs.densities.densities_into.Tie as tie
-
--- the call, seen from behind the comparisons
-abbrev call : tie.After-held-d → tie.After-triangle_mesh_current_density-refusal
-call c =
-    c
 
 pub returns : goal.returns
 unfolding densities_into
 returns c =
-    let e = (call c).triangle-mesh-current-density.ensures in
+    let e = c.triangle_mesh_current_density-refusal.ensures in
     rw (← e.number, ← e.x, ← e.y, ← e.z, ← c.same_word-a.ensures, ← c.held-b.ensures, ← c.held-c.ensures, ← c.held-d.ensures)
 
 pub overflow_add-p : goal.overflow_add-p
@@ -29,10 +23,10 @@ pub overflow_add-k : goal.overflow_add-k
 overflow_add-k c = index_fits (omega arith)
 
 pub shape_of-jx : goal.shape_of-jx
-shape_of-jx c = (call c).triangle-mesh-current-density.auto.1.1.1.1.1.1.1.0
+shape_of-jx c = c.triangle_mesh_current_density-refusal.auto.1.1.1.1.1.1.1.0
 
 pub shape_of-jy : goal.shape_of-jy
-shape_of-jy c = (call c).triangle-mesh-current-density.auto.1.1.1.1.1.1.1.1.0
+shape_of-jy c = c.triangle_mesh_current_density-refusal.auto.1.1.1.1.1.1.1.1.0
 
 pub shape_of-jz : goal.shape_of-jz
-shape_of-jz c = (call c).triangle-mesh-current-density.auto.1.1.1.1.1.1.1.1.1.0
+shape_of-jz c = c.triangle_mesh_current_density-refusal.auto.1.1.1.1.1.1.1.1.1.0

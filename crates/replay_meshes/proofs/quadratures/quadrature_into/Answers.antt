@@ -3,24 +3,14 @@ use native.Mathlib.Omega.{arith}
 use Rattle.lists.proofs.Indices.{index_fits}
 use Rattle.replay_meshes.specs.Meshes.{quadrature_into}
 use Rattle.replay_meshes.proofs.quadratures.quadrature_into.Goals as goal
-use Rattle.replay_meshes.proofs.quadratures.quadrature_into.Tie as tie
-
--- the entry, seen from behind the call; the call, seen from before the last comparison
-abbrev entry : tie.After-triangle_mesh_quadrature_points-refusal → tie.Start
-entry c =
-    c
-
-abbrev call : tie.After-held-arg4 → tie.After-triangle_mesh_quadrature_points-refusal
-call c =
-    c
 
 pub held-e-requires : goal.held-e-requires
-held-e-requires c = omega (arith, (entry (call c)).requires, call c)
+held-e-requires c = omega (arith, c.requires, c)
 
 pub returns : goal.returns
 unfolding quadrature_into
 returns c =
-    let e = (call c).triangle-mesh-quadrature-points.ensures in
+    let e = c.triangle_mesh_quadrature_points-refusal.ensures in
     rw (
       ← e.number,
       ← e.x,
@@ -50,13 +40,13 @@ pub overflow_add-k : goal.overflow_add-k
 overflow_add-k c = index_fits (omega arith)
 
 pub shape_of-px : goal.shape_of-px
-shape_of-px c = (call c).triangle-mesh-quadrature-points.auto.1.1.1.1.1.1.1.0
+shape_of-px c = c.triangle_mesh_quadrature_points-refusal.auto.1.1.1.1.1.1.1.0
 
 pub shape_of-py : goal.shape_of-py
-shape_of-py c = (call c).triangle-mesh-quadrature-points.auto.1.1.1.1.1.1.1.1.0
+shape_of-py c = c.triangle_mesh_quadrature_points-refusal.auto.1.1.1.1.1.1.1.1.0
 
 pub shape_of-pz : goal.shape_of-pz
-shape_of-pz c = (call c).triangle-mesh-quadrature-points.auto.1.1.1.1.1.1.1.1.1.0
+shape_of-pz c = c.triangle_mesh_quadrature_points-refusal.auto.1.1.1.1.1.1.1.1.1.0
 
 pub shape_of-pw : goal.shape_of-pw
-shape_of-pw c = (call c).triangle-mesh-quadrature-points.auto.1.1.1.1.1.1.1.1.1.1.0
+shape_of-pw c = c.triangle_mesh_quadrature_points-refusal.auto.1.1.1.1.1.1.1.1.1.1.0

@@ -7,31 +7,33 @@ use Rattle.tri.specs.Quadrature.{quadrature_row}
 use Rattle.tri.specs.Groups.{groups, group_count, turned, placed}
 use Rattle.tri.proofs.Groups.{in_groups, row-placed}
 use Rattle.tri.proofs.quadrature.quadrature_row.Goals as goal
-use Rattle.tri.proofs.quadrature.quadrature_row.Tie as tie
-
-row : (c : tie.After-first_place) → quadrature_row c.args.kind c.args.k ≡ placed (c.first_place.result + c.args.k)
-row c = let a = c.args in rw c.first_place.ensures (row-placed a.kind a.k c.requires)
-
-within : (c : tie.After-first_place) → (c.first_place.result + c.args.k) / 3 < group_count
-within c = let a = c.args in rw c.first_place.ensures (in_groups a.kind a.k c.requires)
 
 pub overflow_add-place : goal.overflow_add-place
 unfolding groups
-overflow_add-place c = omega (arith, within c)
+overflow_add-place c =
+    let within : (c.first_place.result + c.args.k) / 3 < group_count = let a = c.args in rw c.first_place.ensures (in_groups a.kind a.k c.requires) in
+    omega (arith, within)
 
 pub group-g-requires : goal.group-g-requires
-group-g-requires c = λ _. within c
+group-g-requires c =
+    let within : (c.first_place.result + c.args.k) / 3 < group_count = let a = c.args in rw c.first_place.ensures (in_groups a.kind a.k c.requires) in
+    λ _. within
 
 pub returns-in-0 : goal.returns-in-0
 unfolding turned
-returns-in-0 c = rw (c.group-g.ensures, row c, c.in-0.keys1)
+returns-in-0 c =
+    let row : quadrature_row c.args.kind c.args.k ≡ placed (c.first_place.result + c.args.k) = let a = c.args in rw c.first_place.ensures (row-placed a.kind a.k c.requires) in
+    rw (c.group-g.ensures, row, c.in-0.keys1)
 
 pub returns-in-1 : goal.returns-in-1
 unfolding turned
-returns-in-1 c = rw (c.group-g.ensures, row c, c.in-1.keys2)
+returns-in-1 c =
+    let row : quadrature_row c.args.kind c.args.k ≡ placed (c.first_place.result + c.args.k) = let a = c.args in rw c.first_place.ensures (row-placed a.kind a.k c.requires) in
+    rw (c.group-g.ensures, row, c.in-1.keys2)
 
 pub returns-in_default : goal.returns-in_default
 unfolding turned
 returns-in_default c =
+    let row : quadrature_row c.args.kind c.args.k ≡ placed (c.first_place.result + c.args.k) = let a = c.args in rw c.first_place.ensures (row-placed a.kind a.k c.requires) in
     let r = c.in_default.rest in
-    rw (c.group-g.ensures, row c, ne_eqb _ _ r.0.1, ne_eqb _ _ r.1)
+    rw (c.group-g.ensures, row, ne_eqb _ _ r.0.1, ne_eqb _ _ r.1)
