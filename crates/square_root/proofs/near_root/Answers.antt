@@ -1,5 +1,5 @@
 -- The interval is halved turn by turn: `Interval`.
-use Rattle.std.proofs.Common.{ℕ, ◌+◌, ◌-◌, ◌/◌, ◌<◌, sym, subst, ⊎_elim, arith}
+use Rattle.std.proofs.Common.{ℕ, ◌+◌, ◌/◌, ◌<◌, sym, subst, arith}
 use Rattle.square_root.proofs.Halving.{Interval, start, lower-half, upper-half, last}
 use Rattle.square_root.proofs.near_root.Goals as goal
 use Rattle.square_root.proofs.near_root.Goals.{then-pronic-m, else-pronic-m}
@@ -13,8 +13,9 @@ loop-i-preserved c =
     let m = c.args.m in
     let i : l.i < 52 = omega arith in
     elim c.if-pronic-m.branch [
-    | then-pronic-m w ↦ subst (λ (x : ℕ). Interval m (l.i + 1) x (l.w / 2)) (sym w.r-is) (upper-half m l.i l.r l.w l.invariant i (omega arith))
-    | else-pronic-m w ↦ subst (λ (x : ℕ). Interval m (l.i + 1) x (l.w / 2)) (sym w.r-is) (lower-half m l.i l.r l.w l.invariant i (omega arith)) ]
+      | then-pronic-m w ↦ subst (λ (x : ℕ). Interval m (l.i + 1) x (l.w / 2)) (sym w.r-is) (upper-half m l.i l.r l.w l.invariant i (omega arith))
+      | else-pronic-m w ↦ subst (λ (x : ℕ). Interval m (l.i + 1) x (l.w / 2)) (sym w.r-is) (lower-half m l.i l.r l.w l.invariant i (omega arith))
+    ]
 
 pub returns : goal.returns
 returns c =
