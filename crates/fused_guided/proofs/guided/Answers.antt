@@ -26,7 +26,7 @@ returns-then-not-a c = c.unguided.ensures
 pub float_from_bits-result : goal.float_from_bits-result
 float_from_bits-result c =
     let a = c.guided_bits-a in
-    found_number c.args.x c.args.y c.args.z a.result.sig (a.ensures.1 (not-false a.result.ok (ap not c.if-not-a.false)))
+    found_number c.args.x c.args.y c.args.z a.result.sig (a.ensures.1 (not-false a.result.ok c.if-not-a.false))
 
 pub returns : goal.returns
 returns c =
@@ -35,4 +35,4 @@ returns c =
     let held-z : T (fits binary64 c.args.z) = subst T (sym c.well_formed.1.1.0.1) tt in
     let a = c.guided_bits-a in
     found_fma c.args.x c.args.y c.args.z a.result.sig held_x held-y held-z
-    (a.ensures.1 (not-false a.result.ok (ap not c.if-not-a.false)))
+    (a.ensures.1 (not-false a.result.ok c.if-not-a.false))

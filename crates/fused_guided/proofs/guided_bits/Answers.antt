@@ -3,7 +3,6 @@
 use Rattle.std.proofs.Common.{◌≡◌, ◌+◌, ◌-◌, ◌*◌, ◌^◌, ◌<◌, ◌≤◌, Bool, true, ◌&&◌, sym, ap, ◌∙◌, arith}
 use mathlib.Core.Bool.{false≢true}
 use mir.Facts.{Fits-below}
-use borrow.Author.Tests.{not-true, not-false}
 use Rattle.fused_guided.specs.Guided.{leads, signed_sum, usable}
 use Rattle.fused_guided.proofs.Laws.Tests.{Reach, reach_is}
 use Rattle.fused_guided.proofs.Laws.Terms.{significand-lt, field_lt}
@@ -21,8 +20,8 @@ returns-then-not-usable c =
           ∙ sym
           (guided_no c.args.bx c.args.by c.args.bz c.args.bt c.field-ex.result c.field-ey.result c.field-ez.result
           c.field-et.result
-          k.result s.result c.field-ex.ensures c.field-ey.ensures c.field-ez.ensures c.field-et.ensures kb sb k.ensures
-          s.ensures (sym c.usable.ensures ∙ not-true c.usable.result (ap not c.if-not-usable.true))),
+          k.result s.result c.field-ex.ensures c.field-ey.ensures c.field-ez.ensures c.field-et.ensures kb sb k.ensures.value
+          s.ensures.value (sym c.usable.ensures ∙ c.if-not-usable.true)),
       λ e. absurd (false≢true (sym c.refused.ensures.0 ∙ e)),
     )
 
@@ -30,7 +29,7 @@ pub guided_sum-g-requires : goal.guided_sum-g-requires
 guided_sum-g-requires c =
     let usable-there : usable c.field-ex.result
     c.field-ey.result
-    c.wrapping_sub_u64-k.result c.wrapping_sub_u64-s.result ≡ true = sym c.usable.ensures ∙ not-false c.usable.result (ap not c.if-not-usable.false) in
+    c.wrapping_sub_u64-k.result c.wrapping_sub_u64-s.result ≡ true = sym c.usable.ensures ∙ c.if-not-usable.false in
     let ok-there : Reach 1 c.field-ex.result
     c.field-ey.result
     c.wrapping_sub_u64-k.result c.wrapping_sub_u64-s.result = reach_is 1 c.field-ex.result c.field-ey.result c.wrapping_sub_u64-k.result c.wrapping_sub_u64-s.result usable-there in
@@ -40,40 +39,40 @@ pub overflow_sub-et : goal.overflow_sub-et
 overflow_sub-et c =
     let usable-there : usable c.field-ex.result
     c.field-ey.result
-    c.wrapping_sub_u64-k.result c.wrapping_sub_u64-s.result ≡ true = sym c.usable.ensures ∙ not-false c.usable.result (ap not c.if-not-usable.false) in
+    c.wrapping_sub_u64-k.result c.wrapping_sub_u64-s.result ≡ true = sym c.usable.ensures ∙ c.if-not-usable.false in
     let ok-there : Reach 1 c.field-ex.result
     c.field-ey.result
     c.wrapping_sub_u64-k.result c.wrapping_sub_u64-s.result = reach_is 1 c.field-ex.result c.field-ey.result c.wrapping_sub_u64-k.result c.wrapping_sub_u64-s.result usable-there in
     exponent-some c.field-ex.result c.field-ey.result c.wrapping_sub_u64-k.result c.wrapping_sub_u64-s.result c.field-et.result c.args.bt
-    ok-there c.field-et.ensures c.wrapping_sub_u64-s.ensures
+    ok-there c.field-et.ensures c.wrapping_sub_u64-s.ensures.value
 
 pub overflow_add-et-2 : goal.overflow_add-et-2
 overflow_add-et-2 c =
     let usable-there : usable c.field-ex.result
     c.field-ey.result
-    c.wrapping_sub_u64-k.result c.wrapping_sub_u64-s.result ≡ true = sym c.usable.ensures ∙ not-false c.usable.result (ap not c.if-not-usable.false) in
+    c.wrapping_sub_u64-k.result c.wrapping_sub_u64-s.result ≡ true = sym c.usable.ensures ∙ c.if-not-usable.false in
     let ok-there : Reach 1 c.field-ex.result
     c.field-ey.result
     c.wrapping_sub_u64-k.result c.wrapping_sub_u64-s.result = reach_is 1 c.field-ex.result c.field-ey.result c.wrapping_sub_u64-k.result c.wrapping_sub_u64-s.result usable-there in
-    let room-there : (c.field-et.result - 1) * 2 ^ 52 + c.guided_sum-g.result.sig ≤ infinity_bits = exponent-room c.field-ex.result c.field-ey.result c.wrapping_sub_u64-k.result c.wrapping_sub_u64-s.result c.field-et.result c.args.bt ok-there c.field-et.ensures c.wrapping_sub_u64-s.ensures c.guided_sum-g.result.sig (sig_le c.guided_sum-g.result.ok (signed_sum c.opposite.result (c.normal_significand.result * c.normal_significand-2.result) c.opposite-2.result (c.normal_significand-3.result * 2 ^ c.wrapping_sub_u64-k.result)) c.wrapping_sub_u64-s.result c.guided_sum-g.result.sig c.guided_sum-g.ensures.0 c.guided_sum-g.ensures.1) in
+    let room-there : (c.field-et.result - 1) * 2 ^ 52 + c.guided_sum-g.result.sig ≤ infinity_bits = exponent-room c.field-ex.result c.field-ey.result c.wrapping_sub_u64-k.result c.wrapping_sub_u64-s.result c.field-et.result c.args.bt ok-there c.field-et.ensures c.wrapping_sub_u64-s.ensures.value c.guided_sum-g.result.sig (sig_le c.guided_sum-g.result.ok (signed_sum c.opposite.result (c.normal_significand.result * c.normal_significand-2.result) c.opposite-2.result (c.normal_significand-3.result * 2 ^ c.wrapping_sub_u64-k.result)) c.wrapping_sub_u64-s.result c.guided_sum-g.result.sig c.guided_sum-g.ensures.0 c.guided_sum-g.ensures.1) in
     Fits-below tt room-there
 
 pub signed-requires : goal.signed-requires
 signed-requires c =
     let usable-there : usable c.field-ex.result
     c.field-ey.result
-    c.wrapping_sub_u64-k.result c.wrapping_sub_u64-s.result ≡ true = sym c.usable.ensures ∙ not-false c.usable.result (ap not c.if-not-usable.false) in
+    c.wrapping_sub_u64-k.result c.wrapping_sub_u64-s.result ≡ true = sym c.usable.ensures ∙ c.if-not-usable.false in
     let ok-there : Reach 1 c.field-ex.result
     c.field-ey.result
     c.wrapping_sub_u64-k.result c.wrapping_sub_u64-s.result = reach_is 1 c.field-ex.result c.field-ey.result c.wrapping_sub_u64-k.result c.wrapping_sub_u64-s.result usable-there in
-    let room-there : (c.field-et.result - 1) * 2 ^ 52 + c.guided_sum-g.result.sig ≤ infinity_bits = exponent-room c.field-ex.result c.field-ey.result c.wrapping_sub_u64-k.result c.wrapping_sub_u64-s.result c.field-et.result c.args.bt ok-there c.field-et.ensures c.wrapping_sub_u64-s.ensures c.guided_sum-g.result.sig (sig_le c.guided_sum-g.result.ok (signed_sum c.opposite.result (c.normal_significand.result * c.normal_significand-2.result) c.opposite-2.result (c.normal_significand-3.result * 2 ^ c.wrapping_sub_u64-k.result)) c.wrapping_sub_u64-s.result c.guided_sum-g.result.sig c.guided_sum-g.ensures.0 c.guided_sum-g.ensures.1) in
+    let room-there : (c.field-et.result - 1) * 2 ^ 52 + c.guided_sum-g.result.sig ≤ infinity_bits = exponent-room c.field-ex.result c.field-ey.result c.wrapping_sub_u64-k.result c.wrapping_sub_u64-s.result c.field-et.result c.args.bt ok-there c.field-et.ensures c.wrapping_sub_u64-s.ensures.value c.guided_sum-g.result.sig (sig_le c.guided_sum-g.result.ok (signed_sum c.opposite.result (c.normal_significand.result * c.normal_significand-2.result) c.opposite-2.result (c.normal_significand-3.result * 2 ^ c.wrapping_sub_u64-k.result)) c.wrapping_sub_u64-s.result c.guided_sum-g.result.sig c.guided_sum-g.ensures.0 c.guided_sum-g.ensures.1) in
     room-there
 
 pub returns : goal.returns
 returns c =
     let usable-there : usable c.field-ex.result
     c.field-ey.result
-    c.wrapping_sub_u64-k.result c.wrapping_sub_u64-s.result ≡ true = sym c.usable.ensures ∙ not-false c.usable.result (ap not c.if-not-usable.false) in
+    c.wrapping_sub_u64-k.result c.wrapping_sub_u64-s.result ≡ true = sym c.usable.ensures ∙ c.if-not-usable.false in
     let ok-there : Reach 1 c.field-ex.result
     c.field-ey.result
     c.wrapping_sub_u64-k.result c.wrapping_sub_u64-s.result = reach_is 1 c.field-ex.result c.field-ey.result c.wrapping_sub_u64-k.result c.wrapping_sub_u64-s.result usable-there in
@@ -98,7 +97,7 @@ returns c =
           ∙ guided_is nx.result ny.result nz.result nt.result np.result cp.result cz.result c.args.bx c.args.by
           c.args.bz c.args.bt
           c.field-ex.result c.field-ey.result c.field-ez.result c.field-et.result k.result s.result u.result v.result w.result
-          c.field-ex.ensures c.field-ey.ensures c.field-ez.ensures c.field-et.ensures kb sb k.ensures s.ensures
+          c.field-ex.ensures c.field-ey.ensures c.field-ez.ensures c.field-et.ensures kb sb k.ensures.value s.ensures.value
           u.ensures v.ensures w.ensures nx.ensures ny.ensures nz.ensures nt.ensures np.ensures cp.ensures cz.ensures,
       λ found.
           bits_law nx.result ny.result nz.result nt.result np.result cp.result cz.result c.args.bx c.args.by c.args.bz
@@ -106,7 +105,7 @@ returns c =
           g.result.sig
           c.signed.result c.field-ex.ensures c.field-ey.ensures c.field-ez.ensures
           (field_lt c.args.bt c.field-et.result c.field-et.ensures)
-          k.ensures s.ensures ok-there u.ensures v.ensures w.ensures nx.ensures ny.ensures nz.ensures np.ensures
+          k.ensures.value s.ensures.value ok-there u.ensures v.ensures w.ensures nx.ensures ny.ensures nz.ensures np.ensures
           cp.ensures cz.ensures
           (exact_of cp.result cz.result (u.result * v.result) (w.result * 2 ^ k.result) s.result g.result.sig (sym g.ensures.0 ∙ found)
           (guided_sig g.result.ok x s.result g.result.sig found g.ensures.1))

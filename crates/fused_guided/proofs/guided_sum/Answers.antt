@@ -18,7 +18,10 @@ signed_sum-d-requires c =
 
 pub shift_more-x-requires : goal.shift_more-x-requires
 shift_more-x-requires c =
-    ((c.requires.le_s.0, less c.args.s c.requires.le_s.1), below_pow c.signed_sum-d.result.hi (64 - c.args.s) c.if-d-s-ne0.false)
+    record {
+      le_s = (c.requires.le_s.0, less c.args.s c.requires.le_s.1);
+      hi_bound = below_pow c.signed_sum-d.result.hi (64 - c.args.s) c.if-d-s-ne0.false;
+    }
   where
     less : (c : ℕ) → c < 63 → c < 64
     less c h = omega arith

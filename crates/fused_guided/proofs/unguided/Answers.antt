@@ -1,7 +1,6 @@
 -- Where z is far above the product, `far_law`; else the integer form. e1 and on are the places before the test.
 use Rattle.std.proofs.Common.{◌≡◌, ℕ, ◌+◌, ◌^◌, ◌<◌, ◌≤◌, Bool, T, sym, ap, ◌∙◌, subst, arith}
 use mir.Facts.{Fits-below}
-use borrow.Author.Tests.{not-false}
 use lib.Ieee.{binary64, fits, unlike, to_bits}
 use Rattle.fused_integer.specs.Jam.{Jam}
 use Rattle.binary64.proofs.Reading.{sign_of}
@@ -54,24 +53,24 @@ overflow_add-f c = Fits-below tt (most c.jam_product-f.result c.jam_product-f.en
 pub overflow_add-ex : goal.overflow_add-ex
 overflow_add-ex c =
     let ok-there : Far c.field-ex.result c.field-ey.result
-    c.field-ez.result = far_is c.field-ex.result c.field-ey.result c.field-ez.result (sym c.far_above.ensures ∙ not-false c.far_above.result (ap not c.if-not-far_above.false)) in
+    c.field-ez.result = far_is c.field-ex.result c.field-ey.result c.field-ez.result (sym c.far_above.ensures ∙ c.if-not-far_above.false) in
     let rest-there : RestPlace cut_bias c.field-ex.result c.field-ey.result = rest-place cut_bias c.field-ex.result c.field-ey.result (lib.Dec.lit≤ tt) (lib.Dec.lit< tt) ok-there.factors in
     Fits-below tt rest-there.top
 
 pub overflow_sub-ex : goal.overflow_sub-ex
 overflow_sub-ex c =
     let ok-there : Far c.field-ex.result c.field-ey.result
-    c.field-ez.result = far_is c.field-ex.result c.field-ey.result c.field-ez.result (sym c.far_above.ensures ∙ not-false c.far_above.result (ap not c.if-not-far_above.false)) in
+    c.field-ez.result = far_is c.field-ex.result c.field-ey.result c.field-ez.result (sym c.far_above.ensures ∙ c.if-not-far_above.false) in
     let rest-there : RestPlace cut_bias c.field-ex.result c.field-ey.result = rest-place cut_bias c.field-ex.result c.field-ey.result (lib.Dec.lit≤ tt) (lib.Dec.lit< tt) ok-there.factors in
     rest-there.low
 
 pub residual_float-requires : goal.residual_float-requires
 residual_float-requires c =
     let ok-there : Far c.field-ex.result c.field-ey.result
-    c.field-ez.result = far_is c.field-ex.result c.field-ey.result c.field-ez.result (sym c.far_above.ensures ∙ not-false c.far_above.result (ap not c.if-not-far_above.false)) in
+    c.field-ez.result = far_is c.field-ex.result c.field-ey.result c.field-ez.result (sym c.far_above.ensures ∙ c.if-not-far_above.false) in
     let rest-there : RestPlace cut_bias c.field-ex.result c.field-ey.result = rest-place cut_bias c.field-ex.result c.field-ey.result (lib.Dec.lit≤ tt) (lib.Dec.lit< tt) ok-there.factors in
     let r = rest-there in
-    (above c.jam_product-f.result c.jam_product-f.ensures.1, (r.some, r.most))
+    record { f_bound = above c.jam_product-f.result c.jam_product-f.ensures.1; le_e = (r.some, r.most) }
   where
     above : (f : ℕ) → f < 2 ^ 51 → 2 ^ 51 + f < 2 ^ 52
     above f h = omega arith
@@ -82,7 +81,7 @@ returns c =
     let held-y : T (fits binary64 c.args.y) = subst T (sym c.well_formed.1.0.1) tt in
     let held-z : T (fits binary64 c.args.z) = subst T (sym c.well_formed.1.1.0.1) tt in
     let ok-there : Far c.field-ex.result c.field-ey.result
-    c.field-ez.result = far_is c.field-ex.result c.field-ey.result c.field-ez.result (sym c.far_above.ensures ∙ not-false c.far_above.result (ap not c.if-not-far_above.false)) in
+    c.field-ez.result = far_is c.field-ex.result c.field-ey.result c.field-ez.result (sym c.far_above.ensures ∙ c.if-not-far_above.false) in
     let sign : c.opposite-n.result ≡ unlike (sign_of c.args.x) (sign_of c.args.y) =
     c.opposite-n.ensures
     ∙ ap (λ (w : Bool). unlike w c.minus_sign-2.result) c.minus_sign.ensures

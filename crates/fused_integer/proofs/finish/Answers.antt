@@ -6,11 +6,12 @@ use Rattle.fused_integer.proofs.Laws.Finishing.{finish_law, finish_zero}
 use Rattle.fused_integer.proofs.finish.Goals as goal
 
 pub narrow-p-requires : goal.narrow-p-requires
-narrow-p-requires c = (
-  some c.args.hi c.args.lo
-      (λ h l. c.if-hi-lo-eq0.false (ap (λ (x : ℕ). bit_or c.args.hi x) l ∙ or_zero_r c.args.hi ∙ h)),
-  c.requires,
-)
+narrow-p-requires c = record {
+  lo_nonzero = some c.args.hi c.args.lo
+      (λ h l. c.if-hi-lo-eq0.false (ap (λ (x : ℕ). bit_or c.args.hi x) l ∙ or_zero_r c.args.hi ∙ h));
+  lowest_lt_g = c.requires.lowest_lt_g;
+  g_bound = c.requires.g_bound;
+}
   where
     some : (hi lo : ℕ) → (hi ≡ 0 → lo ≡ 0 → ⊥) → 0 < hi * 2 ^ 64 + lo
     some zero zero h = absurd (h refl refl)

@@ -1,6 +1,5 @@
 -- Where x or y is a zero or an infinity, or z is one, no rounding is lost (`odd_x`, `odd_y`, `zero_z`, `inf_z`); else `finite` gives the bits of the sum.
 use Rattle.std.proofs.Common.{◌≡◌, ℕ, ◌*◌, ◌^◌, ◌<◌, ◌≤◌, Bool, T, sym, ap, ◌∙◌, subst, arith}
-use borrow.Author.Tests.{not-true, not-false}
 use lib.Ieee.{binary64, fits, unlike, sum}
 use Rattle.binary64.specs.Pattern.{mag}
 use Rattle.binary64.proofs.Reading.{sign_of, read-inf, read_zero, mag_pos}
@@ -15,7 +14,7 @@ returns-then-not-plain c =
     let held_x : T (fits binary64 c.args.x) = subst T (sym c.well_formed.0.1) tt in
     let m = c.magnitude-ax in
     odd_x c.args.x c.args.y c.args.z m.result held_x c.requires.t m.ensures
-    (c.plain.ensures.1 (not-true c.plain.result (ap not c.if-not-plain.true)))
+    (c.plain.ensures.1 c.if-not-plain.true)
 
 pub returns-then-not-plain-2 : goal.returns-then-not-plain-2
 returns-then-not-plain-2 c =
@@ -25,8 +24,8 @@ returns-then-not-plain-2 c =
     let mx = c.magnitude-ax in
     let px = c.plain in
     odd_y c.args.x c.args.y c.args.z (sign_of c.args.x) (mag mx.result) m.result
-    (plain_value c.args.x mx.result held_x mx.ensures (px.ensures.0 (not-false px.result (ap not c.if-not-plain.false))).1)
-    held-y c.requires.t_2 m.ensures (c.plain-2.ensures.1 (not-true c.plain-2.result (ap not c.if-not-plain-2.true)))
+    (plain_value c.args.x mx.result held_x mx.ensures (px.ensures.0 c.if-not-plain.false).1)
+    held-y c.requires.t_2 m.ensures (c.plain-2.ensures.1 c.if-not-plain-2.true)
 
 pub returns-then-az-eq0 : goal.returns-then-az-eq0
 returns-then-az-eq0 c =
@@ -38,8 +37,8 @@ returns-then-az-eq0 c =
     let mz = c.magnitude-az in
     let px = c.plain in
     let py = c.plain-2 in
-    let gx = px.ensures.0 (not-false px.result (ap not c.if-not-plain.false)) in
-    let gy = py.ensures.0 (not-false py.result (ap not c.if-not-plain-2.false)) in
+    let gx = px.ensures.0 c.if-not-plain.false in
+    let gy = py.ensures.0 c.if-not-plain-2.false in
     zero_z c.args.x c.args.y c.args.z (sign_of c.args.x) (sign_of c.args.y) (sign_of c.args.z) (mag mx.result) (mag my.result)
     (plain_value c.args.x mx.result held_x mx.ensures gx.1) (plain_value c.args.y my.result held-y my.ensures gy.1)
     (mag_pos mx.result gx.0) (mag_pos my.result gy.0) (read_zero c.args.z held-z (sym mz.ensures ∙ c.if-az-eq0.true))
@@ -54,8 +53,8 @@ returns-then-az-ge-INFINITY_BITS c =
     let mz = c.magnitude-az in
     let px = c.plain in
     let py = c.plain-2 in
-    let gx = px.ensures.0 (not-false px.result (ap not c.if-not-plain.false)) in
-    let gy = py.ensures.0 (not-false py.result (ap not c.if-not-plain-2.false)) in
+    let gx = px.ensures.0 c.if-not-plain.false in
+    let gy = py.ensures.0 c.if-not-plain-2.false in
     inf_z c.args.x c.args.y c.args.z (sign_of c.args.x) (sign_of c.args.y) (sign_of c.args.z) (mag mx.result) (mag my.result)
     (plain_value c.args.x mx.result held_x mx.ensures gx.1) (plain_value c.args.y my.result held-y my.ensures gy.1)
     (read-inf c.args.z held-z c.requires.t_3 (subst (λ (w : ℕ). infinity_bits ≤ w) mz.ensures c.if-az-ge-INFINITY_BITS.true))
@@ -63,13 +62,11 @@ returns-then-az-ge-INFINITY_BITS c =
 pub finite-requires : goal.finite-requires
 finite-requires c =
     let px = c.plain in
-    let py = c.plain-2 in (
-      px.ensures.0 (not-false px.result (ap not c.if-not-plain.false)),
-      (
-        py.ensures.0 (not-false py.result (ap not c.if-not-plain-2.false)),
-        (some c.magnitude-az.result c.if-az-eq0.false, c.if-az-ge-INFINITY_BITS.false),
-      ),
-    )
+    let py = c.plain-2 in record {
+      ax_nonzero = px.ensures.0 c.if-not-plain.false;
+      ay_nonzero = py.ensures.0 c.if-not-plain-2.false;
+      az_nonzero = (some c.magnitude-az.result c.if-az-eq0.false, c.if-az-ge-INFINITY_BITS.false);
+    }
   where
     some : (a : ℕ) → (a ≡ 0 → ⊥) → 0 < a
     some a h = omega arith
@@ -91,8 +88,8 @@ returns c =
     let mz = c.magnitude-az in
     let px = c.plain in
     let py = c.plain-2 in
-    let gx = px.ensures.0 (not-false px.result (ap not c.if-not-plain.false)) in
-    let gy = py.ensures.0 (not-false py.result (ap not c.if-not-plain-2.false)) in
+    let gx = px.ensures.0 c.if-not-plain.false in
+    let gy = py.ensures.0 c.if-not-plain-2.false in
     let n = mag mx.result * mag my.result in
     let p = mag mz.result * 2 ^ lowest in
     let sx : c.opposite.result ≡ unlike (sign_of c.args.x) (sign_of c.args.y) =

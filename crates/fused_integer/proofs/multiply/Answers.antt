@@ -8,16 +8,16 @@ pub lift-requires : goal.lift-requires
 lift-requires c =
     let p = c.product-w in
     let x = c.unpack-x in
-    let y = c.unpack-y in (
-      (
+    let y = c.unpack-y in record {
+      hi_bound = (
         high_small p.result.hi p.result.lo (x.result.sig / 2 * y.result.sig) p.ensures
             (product_top x.result.sig y.result.sig x.ensures.word y.ensures.word),
         product_lead x.result.sig x.result.exp (mag c.args.ax) y.result.sig y.result.exp (mag c.args.ay)
             (p.result.hi * 2 ^ 64 + p.result.lo)
             x.ensures y.ensures p.ensures,
-      ),
-      both x.result.exp y.result.exp x.ensures.some y.ensures.some,
-    )
+      );
+      le_g = both x.result.exp y.result.exp x.ensures.some y.ensures.some;
+    }
   where
     both : (a b : ℕ) → 1 ≤ a → 1 ≤ b → 2 ≤ a + b
     both a b h k = omega arith

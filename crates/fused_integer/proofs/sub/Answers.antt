@@ -24,10 +24,10 @@ overflow_sub-result-else-al-bl c = no_borrow c.args.ah c.args.al c.args.bh c.arg
 pub returns-then-al-bl : goal.returns-then-al-bl
 returns-then-al-bl c =
     let w = c.wrapping_sub_u64-lo in
-    sub_borrow c.args.ah c.args.al c.args.bh c.args.bl w.result w.type_inv c.ranges.bl.fits c.requires w.ensures c.if-al-bl.true
+    sub_borrow c.args.ah c.args.al c.args.bh c.args.bl w.result w.type_inv c.ranges.bl.fits c.requires w.ensures.value c.if-al-bl.true
 
 pub returns-else-al-bl : goal.returns-else-al-bl
 returns-else-al-bl c =
     let w = c.wrapping_sub_u64-lo in
-    sub_plain c.args.ah c.args.al c.args.bh c.args.bl w.result w.type_inv c.ranges.bl.fits c.ranges.al.fits c.requires w.ensures
+    sub_plain c.args.ah c.args.al c.args.bh c.args.bl w.result w.type_inv c.ranges.bl.fits c.ranges.al.fits c.requires w.ensures.value
     c.if-al-bl.false

@@ -3,7 +3,6 @@
 -- places before the tests.
 use Rattle.std.proofs.Common.{◌≡◌, Bool, not, T, sym, ap, ◌∙◌, subst}
 use mir.Facts.{Fits-below}
-use borrow.Author.Tests.{not-false}
 use lib.Ieee.{binary64, fits, unlike, add, mul, is_nan}
 use Rattle.binary64.proofs.Pattern.{self_equal}
 use Rattle.binary64.proofs.Reading.{sign_of}
@@ -30,10 +29,18 @@ float_to_bits-bz c =
     let number-t : T (not (is_nan (add binary64 (mul binary64 c.args.x c.args.y) c.args.z))) = self_equal (add binary64 (mul binary64 c.args.x c.args.y) c.args.z) c.if-t.false in
     number_z c.args.x c.args.y c.args.z number-t
 
+pub float_to_bits-bt : goal.float_to_bits-bt
+float_to_bits-bt c = self_equal (add binary64 (mul binary64 c.args.x c.args.y) c.args.z) c.if-t.false
+
 pub guided-requires : goal.guided-requires
 guided-requires c =
     let number-t : T (not (is_nan (add binary64 (mul binary64 c.args.x c.args.y) c.args.z))) = self_equal (add binary64 (mul binary64 c.args.x c.args.y) c.args.z) c.if-t.false in
-    record { t = float-to-bits-bx c; t_2 = float-to-bits-by c; t_3 = float-to-bits-bz c; t_4 = number-t }
+    record {
+      t = number_x c.args.x c.args.y c.args.z number-t;
+      t_2 = number_y c.args.x c.args.y c.args.z number-t;
+      t_3 = number_z c.args.x c.args.y c.args.z number-t;
+      t_4 = number-t;
+    }
 
 pub residual_word-g-requires : goal.residual_word-g-requires
 residual_word-g-requires c =
@@ -42,21 +49,21 @@ residual_word-g-requires c =
     let held-z : T (fits binary64 c.args.z) = subst T (sym c.well_formed.1.1.0.1) tt in
     let ok-there : Reach least_place c.field-ex.result
     c.field-ey.result
-    c.wrapping_sub_u64-k.result c.wrapping_sub_u64-m.result = reach_is least_place c.field-ex.result c.field-ey.result c.wrapping_sub_u64-k.result c.wrapping_sub_u64-m.result (sym c.reach.ensures ∙ not-false c.reach.result (ap not c.if-not-reach.false)) in
+    c.wrapping_sub_u64-k.result c.wrapping_sub_u64-m.result = reach_is least_place c.field-ex.result c.field-ey.result c.wrapping_sub_u64-k.result c.wrapping_sub_u64-m.result (sym c.reach.ensures ∙ c.if-not-reach.false) in
     let product-sign : c.opposite-cp.result ≡ unlike (unlike (sign_of c.args.x) (sign_of c.args.y)) c.minus_sign-nt.result = c.opposite-cp.ensures ∙ ap (λ (w : Bool). unlike w c.minus_sign-nt.result) (c.opposite.ensures ∙ ap (λ (w : Bool). unlike w c.minus_sign-2.result) c.minus_sign.ensures ∙ ap (λ (w : Bool). unlike (sign_of c.args.x) w) c.minus_sign-2.ensures) in
     let addend-sign : c.opposite-cz.result ≡ unlike (sign_of c.args.z) c.minus_sign-nt.result = c.opposite-cz.ensures ∙ ap (λ (w : Bool). unlike w c.minus_sign-nt.result) c.minus_sign-3.ensures in
     let ok = ok-there in record { k_bound = (ok.near_z, place-word c.wrapping_sub_u64-m.result ok.near_t); fits = close c.args.x c.args.y c.args.z held_x held-y held-z c.field-ex.result c.field-ey.result c.field.result
           c.field-2.result
           c.wrapping_sub_u64-k.result c.wrapping_sub_u64-m.result c.normal_significand.result c.normal_significand-2.result c.normal_significand-3.result c.normal_significand-4.result
-          c.field-ex.ensures c.field-ey.ensures c.field.ensures c.field-2.ensures c.wrapping_sub_u64-k.ensures
-          c.wrapping_sub_u64-m.ensures ok c.normal_significand.ensures c.normal_significand-2.ensures c.normal_significand-3.ensures c.normal_significand-4.ensures
+          c.field-ex.ensures c.field-ey.ensures c.field.ensures c.field-2.ensures c.wrapping_sub_u64-k.ensures.value
+          c.wrapping_sub_u64-m.ensures.value ok c.normal_significand.ensures c.normal_significand-2.ensures c.normal_significand-3.ensures c.normal_significand-4.ensures
           c.minus_sign-nt.result c.opposite-cp.result c.opposite-cz.result c.minus_sign-nt.ensures product-sign addend-sign }
 
 pub overflow_sub-ex : goal.overflow_sub-ex
 overflow_sub-ex c =
     let ok-there : Reach least_place c.field-ex.result
     c.field-ey.result
-    c.wrapping_sub_u64-k.result c.wrapping_sub_u64-m.result = reach_is least_place c.field-ex.result c.field-ey.result c.wrapping_sub_u64-k.result c.wrapping_sub_u64-m.result (sym c.reach.ensures ∙ not-false c.reach.result (ap not c.if-not-reach.false)) in
+    c.wrapping_sub_u64-k.result c.wrapping_sub_u64-m.result = reach_is least_place c.field-ex.result c.field-ey.result c.wrapping_sub_u64-k.result c.wrapping_sub_u64-m.result (sym c.reach.ensures ∙ c.if-not-reach.false) in
     let rest-there : RestPlace residual_bias c.field-ex.result
     c.field-ey.result = rest-place residual_bias c.field-ex.result c.field-ey.result (lib.Dec.lit≤ tt) (lib.Dec.lit< tt) ok-there.factors in
     rest-there.low
@@ -65,7 +72,7 @@ pub residual_float-requires : goal.residual_float-requires
 residual_float-requires c =
     let ok-there : Reach least_place c.field-ex.result
     c.field-ey.result
-    c.wrapping_sub_u64-k.result c.wrapping_sub_u64-m.result = reach_is least_place c.field-ex.result c.field-ey.result c.wrapping_sub_u64-k.result c.wrapping_sub_u64-m.result (sym c.reach.ensures ∙ not-false c.reach.result (ap not c.if-not-reach.false)) in
+    c.wrapping_sub_u64-k.result c.wrapping_sub_u64-m.result = reach_is least_place c.field-ex.result c.field-ey.result c.wrapping_sub_u64-k.result c.wrapping_sub_u64-m.result (sym c.reach.ensures ∙ c.if-not-reach.false) in
     let rest-there : RestPlace residual_bias c.field-ex.result
     c.field-ey.result = rest-place residual_bias c.field-ex.result c.field-ey.result (lib.Dec.lit≤ tt) (lib.Dec.lit< tt) ok-there.factors in
     let r = rest-there in
@@ -89,14 +96,14 @@ returns c =
     let held-z : T (fits binary64 c.args.z) = subst T (sym c.well_formed.1.1.0.1) tt in
     let ok-there : Reach least_place c.field-ex.result
     c.field-ey.result
-    c.wrapping_sub_u64-k.result c.wrapping_sub_u64-m.result = reach_is least_place c.field-ex.result c.field-ey.result c.wrapping_sub_u64-k.result c.wrapping_sub_u64-m.result (sym c.reach.ensures ∙ not-false c.reach.result (ap not c.if-not-reach.false)) in
+    c.wrapping_sub_u64-k.result c.wrapping_sub_u64-m.result = reach_is least_place c.field-ex.result c.field-ey.result c.wrapping_sub_u64-k.result c.wrapping_sub_u64-m.result (sym c.reach.ensures ∙ c.if-not-reach.false) in
     let product-sign : c.opposite-cp.result ≡ unlike (unlike (sign_of c.args.x) (sign_of c.args.y)) c.minus_sign-nt.result = c.opposite-cp.ensures ∙ ap (λ (w : Bool). unlike w c.minus_sign-nt.result) (c.opposite.ensures ∙ ap (λ (w : Bool). unlike w c.minus_sign-2.result) c.minus_sign.ensures ∙ ap (λ (w : Bool). unlike (sign_of c.args.x) w) c.minus_sign-2.ensures) in
     let addend-sign : c.opposite-cz.result ≡ unlike (sign_of c.args.z) c.minus_sign-nt.result = c.opposite-cz.ensures ∙ ap (λ (w : Bool). unlike w c.minus_sign-nt.result) c.minus_sign-3.ensures in
     residual_law c.args.x c.args.y c.args.z held_x held-y held-z c.field-ex.result c.field-ey.result c.field.result
     c.field-2.result
     c.wrapping_sub_u64-k.result c.wrapping_sub_u64-m.result c.normal_significand.result c.normal_significand-2.result c.normal_significand-3.result c.normal_significand-4.result
-    c.field-ex.ensures c.field-ey.ensures c.field.ensures c.field-2.ensures c.wrapping_sub_u64-k.ensures
-    c.wrapping_sub_u64-m.ensures ok-there c.normal_significand.ensures c.normal_significand-2.ensures c.normal_significand-3.ensures c.normal_significand-4.ensures
+    c.field-ex.ensures c.field-ey.ensures c.field.ensures c.field-2.ensures c.wrapping_sub_u64-k.ensures.value
+    c.wrapping_sub_u64-m.ensures.value ok-there c.normal_significand.ensures c.normal_significand-2.ensures c.normal_significand-3.ensures c.normal_significand-4.ensures
     c.minus_sign-nt.result c.opposite-cp.result c.opposite-cz.result c.minus_sign-nt.ensures product-sign addend-sign
     c.residual_word-g.result c.jam_word.result c.residual_float.result c.residual_word-g.ensures c.jam_word.ensures.0 c.residual_float.ensures
 
@@ -104,7 +111,7 @@ pub overflow_add-ex-3 : goal.overflow_add-ex-3
 overflow_add-ex-3 c =
     let ok-there : Reach least_place c.field-ex.result
     c.field-ey.result
-    c.wrapping_sub_u64-k.result c.wrapping_sub_u64-m.result = reach_is least_place c.field-ex.result c.field-ey.result c.wrapping_sub_u64-k.result c.wrapping_sub_u64-m.result (sym c.reach.ensures ∙ not-false c.reach.result (ap not c.if-not-reach.false)) in
+    c.wrapping_sub_u64-k.result c.wrapping_sub_u64-m.result = reach_is least_place c.field-ex.result c.field-ey.result c.wrapping_sub_u64-k.result c.wrapping_sub_u64-m.result (sym c.reach.ensures ∙ c.if-not-reach.false) in
     let rest-there : RestPlace residual_bias c.field-ex.result
     c.field-ey.result = rest-place residual_bias c.field-ex.result c.field-ey.result (lib.Dec.lit≤ tt) (lib.Dec.lit< tt) ok-there.factors in
     Fits-below tt rest-there.top

@@ -6,7 +6,7 @@ pub returns-then-c : goal.returns-then-c
 returns-then-c c =
     let a = c.args.a in
     let r = c.wrapping_sub_u64.result in
-    subst (λ (b : Bool). (r + cond b a 0) % 2 ^ 64 ≡ cond b 0 a) (sym c.if-c.true) c.wrapping_sub_u64.ensures
+    subst (λ (b : Bool). (r + cond b a 0) % 2 ^ 64 ≡ cond b 0 a) (sym c.if-c.true) c.wrapping_sub_u64.ensures.value
 
 pub returns-else-c : goal.returns-else-c
 returns-else-c c =

@@ -9,5 +9,5 @@ returns c =
     let t = c.args.c * 2 ^ c.args.m in
     residual_law c.args.cp c.args.cz (c.args.u * c.args.v) z t c.low_product.result c.negate-p.result (z % 2 ^ 64) c.negate-z.result
     c.wrapping_add_u64.result (t % 2 ^ 64) c.wrapping_sub_u64-d.result c.wrapping_add_u64-2.result c.low_product.ensures
-    c.negate-p.ensures refl c.negate-z.ensures c.wrapping_add_u64.ensures refl c.wrapping_sub_u64-d.ensures c.wrapping_add_u64-2.ensures
+    c.negate-p.ensures refl c.negate-z.ensures c.wrapping_add_u64.ensures.value refl c.wrapping_sub_u64-d.ensures.value c.wrapping_add_u64-2.ensures.value
     c.requires.fits

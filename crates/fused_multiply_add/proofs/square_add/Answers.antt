@@ -1,8 +1,8 @@
 -- `mul_add`'s argument with two equal factors and no minus sign: neither the square nor z has one, so t has none (`t_plus`). e1 and on are the places before
 -- the tests.
-use Rattle.std.proofs.Common.{◌≡◌, ◌^◌, Bool, true, false, T, sym, refl, ap, ◌∙◌, subst}
-use borrow.Author.Tests.{not-false, lt-leb}
-use lib.Ieee.{binary64, fits, unlike, add, mul, to_bits}
+use Rattle.std.proofs.Common.{◌≡◌, ◌^◌, Bool, true, false, not, T, sym, refl, ap, ◌∙◌, subst}
+use borrow.Author.Tests.{lt-leb}
+use lib.Ieee.{binary64, fits, unlike, add, mul, is_nan, to_bits}
 use Rattle.binary64.proofs.Pattern.{self_equal}
 use Rattle.binary64.proofs.Reading.{sign_of}
 use Rattle.fused_multiply_add.proofs.Laws.Numbers.{number_x, number_z}
@@ -38,7 +38,9 @@ float_to_bits-bt c =
 
 pub guided-requires : goal.guided-requires
 guided-requires c =
-    record { t = float-to-bits-bx c; t_2 = float-to-bits-bx c; t_3 = float-to-bits-bz c; t_4 = float-to-bits-bt c }
+    let number-t : T (not (is_nan (add binary64 (mul binary64 c.args.x c.args.x) c.args.z))) = self_equal (add binary64 (mul binary64 c.args.x c.args.x) c.args.z) c.if-t.false in
+    let number-x = number_x c.args.x c.args.x c.args.z number-t in
+    record { t = number-x; t_2 = number-x; t_3 = number_z c.args.x c.args.x c.args.z number-t; t_4 = number-t }
 
 pub residual_word-g-requires : goal.residual_word-g-requires
 residual_word-g-requires c =
@@ -46,15 +48,15 @@ residual_word-g-requires c =
     let held-z : T (fits binary64 c.args.z) = subst T (sym c.well_formed.1.0.1) tt in
     let ok-there : Reach least_place c.field-ex.result
     c.field-ex.result c.wrapping_sub_u64-k.result
-    c.wrapping_sub_u64-m.result = reach_is least_place c.field-ex.result c.field-ex.result c.wrapping_sub_u64-k.result c.wrapping_sub_u64-m.result (sym c.reach.ensures ∙ not-false c.reach.result (ap not c.if-not-reach.false)) in
+    c.wrapping_sub_u64-m.result = reach_is least_place c.field-ex.result c.field-ex.result c.wrapping_sub_u64-k.result c.wrapping_sub_u64-m.result (sym c.reach.ensures ∙ c.if-not-reach.false) in
     let z-plus : sign_of c.args.z ≡ false = lt-leb (2 ^ 63) (to_bits binary64 c.args.z) c.if-bz-ge-SIGN_BIT.false in
-    let t-sign : sign_of (add binary64 (mul binary64 c.args.x c.args.x) c.args.z) ≡ false = t_plus c.args.x c.args.x c.args.z held_x held_x held-z c.field-ex.result c.field-ex.result c.field-ez.result c.field-et.result c.wrapping_sub_u64-k.result c.wrapping_sub_u64-m.result c.normal_significand-u.result c.normal_significand-u.result c.normal_significand.result c.normal_significand-2.result c.field-ex.ensures c.field-ex.ensures c.field-ez.ensures c.field-et.ensures c.wrapping_sub_u64-k.ensures c.wrapping_sub_u64-m.ensures ok-there c.normal_significand-u.ensures c.normal_significand-u.ensures c.normal_significand.ensures c.normal_significand-2.ensures (square-plus (sign_of c.args.x)) z-plus in
+    let t-sign : sign_of (add binary64 (mul binary64 c.args.x c.args.x) c.args.z) ≡ false = t_plus c.args.x c.args.x c.args.z held_x held_x held-z c.field-ex.result c.field-ex.result c.field-ez.result c.field-et.result c.wrapping_sub_u64-k.result c.wrapping_sub_u64-m.result c.normal_significand-u.result c.normal_significand-u.result c.normal_significand.result c.normal_significand-2.result c.field-ex.ensures c.field-ex.ensures c.field-ez.ensures c.field-et.ensures c.wrapping_sub_u64-k.ensures.value c.wrapping_sub_u64-m.ensures.value ok-there c.normal_significand-u.ensures c.normal_significand-u.ensures c.normal_significand.ensures c.normal_significand-2.ensures (square-plus (sign_of c.args.x)) z-plus in
     let ok = ok-there in record { k_bound = (ok.near_z, place-word c.wrapping_sub_u64-m.result ok.near_t); fits = close c.args.x c.args.x c.args.z held_x held_x held-z c.field-ex.result c.field-ex.result c.field-ez.result
           c.field-et.result
           c.wrapping_sub_u64-k.result c.wrapping_sub_u64-m.result c.normal_significand-u.result c.normal_significand-u.result c.normal_significand.result
           c.normal_significand-2.result
-          c.field-ex.ensures c.field-ex.ensures c.field-ez.ensures c.field-et.ensures c.wrapping_sub_u64-k.ensures
-          c.wrapping_sub_u64-m.ensures
+          c.field-ex.ensures c.field-ex.ensures c.field-ez.ensures c.field-et.ensures c.wrapping_sub_u64-k.ensures.value
+          c.wrapping_sub_u64-m.ensures.value
           ok c.normal_significand-u.ensures c.normal_significand-u.ensures c.normal_significand.ensures c.normal_significand-2.ensures false false false
           (sym t-sign) (product-sign (sign_of c.args.x)) (addend-sign (sign_of c.args.z) z-plus) }
 
@@ -62,7 +64,7 @@ pub overflow_sub-ex : goal.overflow_sub-ex
 overflow_sub-ex c =
     let ok-there : Reach least_place c.field-ex.result
     c.field-ex.result c.wrapping_sub_u64-k.result
-    c.wrapping_sub_u64-m.result = reach_is least_place c.field-ex.result c.field-ex.result c.wrapping_sub_u64-k.result c.wrapping_sub_u64-m.result (sym c.reach.ensures ∙ not-false c.reach.result (ap not c.if-not-reach.false)) in
+    c.wrapping_sub_u64-m.result = reach_is least_place c.field-ex.result c.field-ex.result c.wrapping_sub_u64-k.result c.wrapping_sub_u64-m.result (sym c.reach.ensures ∙ c.if-not-reach.false) in
     let rest-there : RestPlace residual_bias c.field-ex.result
     c.field-ex.result = let x = c.field-ex.result in rest-place residual_bias x x (lib.Dec.lit≤ tt) (lib.Dec.lit< tt) ok-there.factors in
     rest-there.low
@@ -71,7 +73,7 @@ pub residual_float-requires : goal.residual_float-requires
 residual_float-requires c =
     let ok-there : Reach least_place c.field-ex.result
     c.field-ex.result c.wrapping_sub_u64-k.result
-    c.wrapping_sub_u64-m.result = reach_is least_place c.field-ex.result c.field-ex.result c.wrapping_sub_u64-k.result c.wrapping_sub_u64-m.result (sym c.reach.ensures ∙ not-false c.reach.result (ap not c.if-not-reach.false)) in
+    c.wrapping_sub_u64-m.result = reach_is least_place c.field-ex.result c.field-ex.result c.wrapping_sub_u64-k.result c.wrapping_sub_u64-m.result (sym c.reach.ensures ∙ c.if-not-reach.false) in
     let rest-there : RestPlace residual_bias c.field-ex.result
     c.field-ex.result = let x = c.field-ex.result in rest-place residual_bias x x (lib.Dec.lit≤ tt) (lib.Dec.lit< tt) ok-there.factors in
     let r = rest-there in record { f_bound = c.jam_word.ensures.1; le_e = (r.some, r.most) }
@@ -82,13 +84,13 @@ returns c =
     let held-z : T (fits binary64 c.args.z) = subst T (sym c.well_formed.1.0.1) tt in
     let ok-there : Reach least_place c.field-ex.result
     c.field-ex.result c.wrapping_sub_u64-k.result
-    c.wrapping_sub_u64-m.result = reach_is least_place c.field-ex.result c.field-ex.result c.wrapping_sub_u64-k.result c.wrapping_sub_u64-m.result (sym c.reach.ensures ∙ not-false c.reach.result (ap not c.if-not-reach.false)) in
+    c.wrapping_sub_u64-m.result = reach_is least_place c.field-ex.result c.field-ex.result c.wrapping_sub_u64-k.result c.wrapping_sub_u64-m.result (sym c.reach.ensures ∙ c.if-not-reach.false) in
     let z-plus : sign_of c.args.z ≡ false = lt-leb (2 ^ 63) (to_bits binary64 c.args.z) c.if-bz-ge-SIGN_BIT.false in
-    let t-sign : sign_of (add binary64 (mul binary64 c.args.x c.args.x) c.args.z) ≡ false = t_plus c.args.x c.args.x c.args.z held_x held_x held-z c.field-ex.result c.field-ex.result c.field-ez.result c.field-et.result c.wrapping_sub_u64-k.result c.wrapping_sub_u64-m.result c.normal_significand-u.result c.normal_significand-u.result c.normal_significand.result c.normal_significand-2.result c.field-ex.ensures c.field-ex.ensures c.field-ez.ensures c.field-et.ensures c.wrapping_sub_u64-k.ensures c.wrapping_sub_u64-m.ensures ok-there c.normal_significand-u.ensures c.normal_significand-u.ensures c.normal_significand.ensures c.normal_significand-2.ensures (square-plus (sign_of c.args.x)) z-plus in
+    let t-sign : sign_of (add binary64 (mul binary64 c.args.x c.args.x) c.args.z) ≡ false = t_plus c.args.x c.args.x c.args.z held_x held_x held-z c.field-ex.result c.field-ex.result c.field-ez.result c.field-et.result c.wrapping_sub_u64-k.result c.wrapping_sub_u64-m.result c.normal_significand-u.result c.normal_significand-u.result c.normal_significand.result c.normal_significand-2.result c.field-ex.ensures c.field-ex.ensures c.field-ez.ensures c.field-et.ensures c.wrapping_sub_u64-k.ensures.value c.wrapping_sub_u64-m.ensures.value ok-there c.normal_significand-u.ensures c.normal_significand-u.ensures c.normal_significand.ensures c.normal_significand-2.ensures (square-plus (sign_of c.args.x)) z-plus in
     residual_law c.args.x c.args.x c.args.z held_x held_x held-z c.field-ex.result c.field-ex.result c.field-ez.result
     c.field-et.result
     c.wrapping_sub_u64-k.result c.wrapping_sub_u64-m.result c.normal_significand-u.result c.normal_significand-u.result c.normal_significand.result c.normal_significand-2.result
-    c.field-ex.ensures c.field-ex.ensures c.field-ez.ensures c.field-et.ensures c.wrapping_sub_u64-k.ensures c.wrapping_sub_u64-m.ensures
+    c.field-ex.ensures c.field-ex.ensures c.field-ez.ensures c.field-et.ensures c.wrapping_sub_u64-k.ensures.value c.wrapping_sub_u64-m.ensures.value
     ok-there c.normal_significand-u.ensures c.normal_significand-u.ensures c.normal_significand.ensures c.normal_significand-2.ensures false false false
     (sym t-sign) (product-sign (sign_of c.args.x)) (addend-sign (sign_of c.args.z) z-plus) c.residual_word-g.result c.jam_word.result
     c.residual_float.result c.residual_word-g.ensures c.jam_word.ensures.0 c.residual_float.ensures
