@@ -12,8 +12,7 @@ ghost use Rattle.shape_return.specs.Return.{ReturnedBy, lent_screen};
 ghost use Rattle.screens_assembly.specs.Rows.{RowAt};
 
 // The matrix, row by row, under the rule of a number from 1 to 5.
-#[unsafe(no_mangle)]
-pub extern "C" fn screens_mesh_inductance_matrix(
+pub fn screens_mesh_inductance_matrix(
     rule: u32,
     x: &[f64],
     y: &[f64],
@@ -29,8 +28,7 @@ pub extern "C" fn screens_mesh_inductance_matrix(
 }
 
 // The matrix between source values s and target values t; it goes to the lent number, 0 on a refusal, as every value below.
-#[unsafe(no_mangle)]
-pub extern "C" fn screens_mesh_inductance_from_potentials(
+pub fn screens_mesh_inductance_from_potentials(
     matrix: &[f64],
     s: &[f64],
     t: &[f64],
@@ -44,8 +42,7 @@ pub extern "C" fn screens_mesh_inductance_from_potentials(
 }
 
 // Half of the matrix between s and itself.
-#[unsafe(no_mangle)]
-pub extern "C" fn screens_mesh_inductive_energy(matrix: &[f64], s: &[f64], value: &mut f64) -> u32
+pub fn screens_mesh_inductive_energy(matrix: &[f64], s: &[f64], value: &mut f64) -> u32
     ensures { Energy.EnergyAnswered matrix.now s.now result value.new }
 {
     let answer = linkage::energy::triangle_mesh_inductive_energy(matrix, s);
@@ -54,20 +51,14 @@ pub extern "C" fn screens_mesh_inductive_energy(matrix: &[f64], s: &[f64], value
 }
 
 // The flux linkage of each node.
-#[unsafe(no_mangle)]
-pub extern "C" fn screens_mesh_flux_linkage(
-    map: &[f64],
-    coefficients: &[f64],
-    out: &mut [f64],
-) -> u32
+pub fn screens_mesh_flux_linkage(map: &[f64], coefficients: &[f64], out: &mut [f64]) -> u32
     ensures { Linked map.now coefficients.now out.old result out.new }
 {
     linkage::flux::triangle_mesh_flux_linkage_from_source_coefficients(map, coefficients, out)
 }
 
 // The interaction energy of nodal values and source coefficients.
-#[unsafe(no_mangle)]
-pub extern "C" fn screens_mesh_interaction_energy(
+pub fn screens_mesh_interaction_energy(
     map: &[f64],
     values: &[f64],
     coefficients: &[f64],
@@ -85,8 +76,7 @@ pub extern "C" fn screens_mesh_interaction_energy(
 }
 
 // The row of a node in a matrix for n nodes, as where it begins and how long it is: 0 and 0 on a refusal.
-#[unsafe(no_mangle)]
-pub extern "C" fn screens_matrix_row(
+pub fn screens_matrix_row(
     matrix: &[f64],
     n: usize,
     node: usize,
@@ -107,8 +97,7 @@ pub extern "C" fn screens_matrix_row(
 }
 
 // The row of a node in a map for so many sources, in the same way.
-#[unsafe(no_mangle)]
-pub extern "C" fn screens_map_row(
+pub fn screens_map_row(
     map: &[f64],
     sources: usize,
     node: usize,
@@ -130,8 +119,7 @@ pub extern "C" fn screens_map_row(
 
 // A node moved to the place (px, py, pz), under the rule of a number: the coordinates are written, the cells of its ring's rows and
 // columns renewed, and their count goes to the lent number.
-#[unsafe(no_mangle)]
-pub extern "C" fn screens_move_node(
+pub fn screens_move_node(
     rule: u32,
     x: &mut [f64],
     y: &mut [f64],
@@ -154,8 +142,7 @@ pub extern "C" fn screens_move_node(
 }
 
 // The return to the shape of a name, with the count of the renewed cells, 0 on a refusal.
-#[unsafe(no_mangle)]
-pub extern "C" fn screens_return_shape(
+pub fn screens_return_shape(
     rule: u32,
     x: &mut [f64],
     y: &mut [f64],
