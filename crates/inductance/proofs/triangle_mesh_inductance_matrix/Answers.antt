@@ -12,4 +12,4 @@ returns-in-Known c =
 pub returns-in-Unknown : goal.returns-in-Unknown
 returns-in-Unknown c =
     let a = c.args in
-    assembled_unknown a.rule (mesh_of a.x.now a.y.now a.z.now a.t0.now a.t1.now a.t2.now) a.out.now (sym c.quadrature_rule.ensures ∙ c.enum_told-1.given.1)
+    assembled_unknown a.rule (mesh_of a.x.now a.y.now a.z.now a.t0.now a.t1.now a.t2.now) a.out.now (sym c.quadrature_rule.ensures ∙ c.in-Unknown.is)

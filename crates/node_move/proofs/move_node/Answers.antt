@@ -12,13 +12,10 @@ returns-in-Known c =
 pub returns-in-Unknown : goal.returns-in-Unknown
 returns-in-Unknown c =
     let a = c.args in
-    claim_unknown a.rule (mesh_of a.x.now a.y.now a.z.now a.t0.now a.t1.now a.t2.now) a.out.now a.v a.px a.py a.pz (sym c.quadrature_rule.ensures ∙ c.enum_told-1.given.1)
+    claim_unknown a.rule (mesh_of a.x.now a.y.now a.z.now a.t0.now a.t1.now a.t2.now) a.out.now a.v a.px a.py a.pz (sym c.quadrature_rule.ensures ∙ c.in-Unknown.is)
 
 pub enum_known-kind : goal.enum_known-kind
-enum_known-kind c = c.in-Known.keys1
-
-pub enum_told-1 : goal.enum_told-1
-enum_told-1 c = c.in-Unknown.keys2
+enum_known-kind c = c.in-Known.is
 
 pub shape_of-x : goal.shape_of-x
 shape_of-x c = c.move_under.auto.1.0

@@ -28,10 +28,8 @@ pub returns-in-Unknown : goal.returns-in-Unknown
 returns-in-Unknown c =
     let lent : Mesh = let a = c.args in mesh_of a.x.now a.y.now a.z.now a.t0.now a.t1.now a.t2.now in
     let store : Store = let a = c.args in store_of a.marks.now a.names.now a.sx.now a.sy.now a.sz.now in
-    claim_unknown c.args.rule lent store c.args.name.now c.args.out.now (sym c.quadrature_rule.ensures ∙ c.enum_told-1.given.1)
+    claim_unknown c.args.rule lent store c.args.name.now c.args.out.now (sym c.quadrature_rule.ensures ∙ c.in-Unknown.is)
 
 pub enum_known-kind : goal.enum_known-kind
-enum_known-kind c = c.in-Known.keys1
+enum_known-kind c = c.in-Known.is
 
-pub enum_told-1 : goal.enum_told-1
-enum_told-1 c = c.in-Unknown.keys2

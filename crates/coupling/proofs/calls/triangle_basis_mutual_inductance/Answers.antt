@@ -19,4 +19,4 @@ returns-in-Known c =
 pub returns-in-Unknown : goal.returns-in-Unknown
 unfolding Spec.triangle_basis_mutual_inductance Spec.answer_of
 returns-in-Unknown c =
-    rw (le-ltb _ _ c.if-i-gt2.false, le-ltb _ _ c.if-j-gt2.false, ← c.quadrature_rule.ensures, c.enum_told-1.given.1, c.refused-in-Unknown.ensures)
+    rw (le-ltb _ _ c.if-i-gt2.false, le-ltb _ _ c.if-j-gt2.false, ← c.quadrature_rule.ensures, c.in-Unknown.is, c.refused-in-Unknown.ensures)

@@ -9,4 +9,4 @@ returns-in-Known c =
 
 pub returns-in-Unknown : goal.returns-in-Unknown
 unfolding Spec.triangle_basis_mutual_inductance_block Spec.block_of
-returns-in-Unknown c = rw (← c.quadrature_rule.ensures, c.enum_told-1.given.1)
+returns-in-Unknown c = rw (← c.quadrature_rule.ensures, c.in-Unknown.is)

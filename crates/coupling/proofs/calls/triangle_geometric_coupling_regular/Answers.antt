@@ -10,4 +10,4 @@ returns-in-Known c =
 pub returns-in-Unknown : goal.returns-in-Unknown
 unfolding Spec.triangle_geometric_coupling_regular Spec.answer_of
 returns-in-Unknown c =
-    rw (← c.quadrature_rule.ensures, c.enum_told-1.given.1, c.refused.ensures)
+    rw (← c.quadrature_rule.ensures, c.in-Unknown.is, c.refused.ensures)

@@ -14,7 +14,7 @@ returns-in-Known c =
 
 pub returns-in-Unknown : goal.returns-in-Unknown
 returns-in-Unknown c =
-    rw (← c.quadrature_rule-known.ensures, c.enum_told-1.given.1)
+    rw (← c.quadrature_rule-known.ensures, c.in-Unknown.is)
     (record {
       number = refl;
       x = sym (after-refused 12 _ _ refused);
