@@ -1,5 +1,5 @@
 -- Bounds by powers of two: a sign changes no size.
-use Rattle.core.specs.Prelude.{ℕ, Bool, true, false}
+use Rattle.std.specs.Prelude.{ℕ, Bool, true, false}
 use lib.Ieee.{Float}
 use Rattle.ieee754.specs.Ieee754.{signed}
 use Rattle.binary64.proofs.Bounded.{Below, neg-below}

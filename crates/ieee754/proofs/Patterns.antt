@@ -1,5 +1,5 @@
 -- The bits that a text or a file has for a number are the toolchain's, which has the same pattern for the NaN; a finite number is no NaN.
-use Rattle.core.specs.Prelude.{◌≡◌, true, false}
+use Rattle.std.specs.Prelude.{◌≡◌, true, false}
 use mathlib.Core.Path.{refl}
 use mathlib.Core.Bool.{false≢true}
 use lib.Ieee.{Float, nan, inf, fin, binary64, is_nan, to_bits}

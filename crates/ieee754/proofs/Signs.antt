@@ -1,5 +1,5 @@
 -- A value differs from itself exactly if it is the NaN; the sign bit of a pattern is the value's sign, since the pattern without its sign lies below 2^63; |x| is x with its sign turned where it is set.
-use Rattle.core.specs.Prelude.{◌≡◌, ℕ, zero, suc, ◌^◌, ◌<◌, Bool, true, false, not, T, leb, ℤ}
+use Rattle.std.specs.Prelude.{◌≡◌, ℕ, zero, suc, ◌^◌, ◌<◌, Bool, true, false, not, T, leb, ℤ}
 use mathlib.Core.Path.{refl, sym, ap, subst}
 use mathlib.Core.Bool.{true≢false, false≢true}
 use native.Mathlib.Omega.{arith}

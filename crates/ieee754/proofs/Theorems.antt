@@ -1,5 +1,5 @@
 -- No two numbers share their bits, the NaN being one number: from its bits each is found again.
-use Rattle.core.specs.Prelude.{◌≡◌, T}
+use Rattle.std.specs.Prelude.{◌≡◌, T}
 use mathlib.Core.Path.{sym, ap, ◌∙◌}
 use lib.Ieee.{Float, binary64, fits, of_bits}
 use lib.Ieee.Bits.{of_bits-to_bits}

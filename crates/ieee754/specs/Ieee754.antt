@@ -1,5 +1,5 @@
 -- The Rust's `mul_add`, `sqrt`, `min`, `max`, `clamp`, `abs`, `is_finite` and sign bit of an f64, which the toolchain's library lacks; `min`, `max`, `clamp` and the bits of a NaN by document 01's words. Definitions only.
-use Rattle.core.specs.Prelude.{ℕ, Bool, true, false, cond, is_nan, to_bits}
+use Rattle.std.specs.Prelude.{ℕ, Bool, true, false, cond, is_nan, to_bits}
 use Rattle.std.specs.Prelude.{Float}
 use Rattle.std.specs.Float.{nan, inf, fin, binary64}
 use Rattle.std.specs.Float.Ieee.{neg, lt}

@@ -1,7 +1,7 @@
 // IEEE 754's operations on f64 that the language lacks, each for every input.
 #![tactic(auto)]
 
-ghost use Rattle.core.specs.Prelude.{◌≡◌, false, if◌then◌else◌, is_nan};
+ghost use Rattle.std.specs.Prelude.{◌≡◌, false, if◌then◌else◌, is_nan};
 ghost use Rattle.std.specs.Float.{nan, inf};
 ghost use Rattle.ieee754.specs.Ieee754 as Spec;
 

@@ -1,5 +1,5 @@
 -- A number lies strictly between the two infinities exactly if it is finite: by its cases, a NaN being below and above nothing.
-use Rattle.core.specs.Prelude.{◌≡◌, true, false, ◌&&◌}
+use Rattle.std.specs.Prelude.{◌≡◌, true, false, ◌&&◌}
 use mathlib.Core.Path.{refl}
 use lib.Ieee.{Float, nan, inf, fin, neg, lt}
 use Rattle.ieee754.specs.Ieee754.{is_finite}

@@ -1,6 +1,6 @@
 -- The pattern of a value that is no NaN is 2^63 or more exactly if its sign bit is set.
 use mathlib.Core.Path.{sym, ◌∙◌, subst}
-use Rattle.core.specs.Prelude.{T}
+use Rattle.std.specs.Prelude.{T}
 use Rattle.ieee754.proofs.Signs.{nan_sign, no_nan, sign_bit_lem}
 use Rattle.ieee754.proofs.is_sign_negative.Goals as goal
 

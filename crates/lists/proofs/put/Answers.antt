@@ -1,6 +1,5 @@
 -- After k turns the first k bytes are in place, the others as held.
 use mathlib.Core.Path.{refl}
-use Prim.Native.Nat.{◌-◌}
 use native.Mathlib.Omega.{arith}
 use Rattle.lists.proofs.Runs.{begun, next_room, one_further}
 use Rattle.lists.proofs.Putting.{put_run}

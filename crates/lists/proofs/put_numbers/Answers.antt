@@ -1,6 +1,5 @@
 -- After k turns the first k numbers are in place, the others as held.
 use mathlib.Core.Path.{refl}
-use Prim.Native.Nat.{◌-◌}
 use native.Mathlib.Omega.{arith}
 use lib.Ieee.{nan}
 use Rattle.lists.proofs.Runs.{begun, next_room, one_further, all_put}

@@ -1,7 +1,8 @@
 -- The interval is halved turn by turn: `Interval`.
-use Rattle.std.proofs.Common.{ℕ, ◌+◌, ◌-◌, ◌/◌, ◌<◌, sym, subst, ⊎_elim, arith}
+use Rattle.std.proofs.Common.{ℕ, ◌+◌, ◌/◌, ◌<◌, sym, subst, arith}
 use Rattle.square_root.proofs.Halving.{Interval, start, lower-half, upper-half, last}
 use Rattle.square_root.proofs.near_root.Goals as goal
+use Rattle.square_root.proofs.near_root.Goals.{then-pronic-m, else-pronic-m}
 
 pub loop-i-init : goal.loop-i-init
 loop-i-init c = start c.args.m c.requires
@@ -11,12 +12,13 @@ loop-i-preserved c =
     let l = c.loop-i in
     let m = c.args.m in
     let i : l.i < 52 = omega arith in
-    ⊎_elim
-    (λ w. subst (λ (x : ℕ). Interval m (l.i + 1) x (l.w / 2)) (sym w.1) (upper-half m l.i l.r l.w l.invariant i (omega arith)))
-    (λ w. subst (λ (x : ℕ). Interval m (l.i + 1) x (l.w / 2)) (sym w.1) (lower-half m l.i l.r l.w l.invariant i (omega arith)))
-    c.if-pronic-m.branch
+    elim c.if-pronic-m.branch [
+      | then-pronic-m w ↦ subst (λ (x : ℕ). Interval m (l.i + 1) x (l.w / 2)) (sym w.r-is) (upper-half m l.i l.r l.w l.invariant i (omega arith))
+      | else-pronic-m w ↦ subst (λ (x : ℕ). Interval m (l.i + 1) x (l.w / 2)) (sym w.r-is) (lower-half m l.i l.r l.w l.invariant i (omega arith))
+    ]
 
 pub returns : goal.returns
 returns c =
     let l = c.loop-i in
-    last c.args.m l.i l.r l.w l.invariant (omega arith)
+    let h = last c.args.m l.i l.r l.w l.invariant (omega arith) in
+    record { digits = h.0; near_root = h.1 }

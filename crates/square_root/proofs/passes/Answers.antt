@@ -21,8 +21,11 @@ unfolding Estimate.passes sqrt
 returns c =
     let held : T (fits binary64 c.args.g) = subst T (sym c.well_formed.1.0.1) tt in
     let b = c.args.b in
-    let g = c.args.g in record { value = rw c.if-g.false c.is_root.ensures; g_value = λ t.
+    let g = c.args.g in record {
+      value = rw c.if-g.false c.is_root.ensures;
+      g_value = λ t.
           let x = of_bits binary64 b in
           sym (of_bits-to_bits binary64 g held)
           ∙ ap (λ (n : ℕ). of_bits binary64 n) (passed b (to_bits binary64 g) (omega arith) (omega arith) (subst T c.is_root.ensures t))
-          ∙ of_bits-to_bits binary64 (square_root binary64 x) (sqrt_fits binary64 x (of_bits-fits binary64 b)) }
+          ∙ of_bits-to_bits binary64 (square_root binary64 x) (sqrt_fits binary64 x (of_bits-fits binary64 b));
+    }
