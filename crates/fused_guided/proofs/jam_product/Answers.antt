@@ -14,7 +14,9 @@ returns c =
   where
     below : (hi lo : ℕ) → hi < 2 ^ 42 → lo < 2 ^ 64 → hi * 2 ^ 64 + lo < 2 ^ 50 * 2 * 2 ^ 55
     below hi lo h l = omega arith
+
     upper : (hi lo : ℕ) → (hi * 2 ^ 64 + lo) / 2 ^ 55 ≡ hi * 512 + lo / 2 ^ 55
     upper hi lo = omega arith
+
     rest : (hi lo : ℕ) → (hi * 2 ^ 64 + lo) % 2 ^ 55 ≡ lo % 2 ^ 55
     rest hi lo = omega arith

@@ -21,14 +21,13 @@ pub float_to_bits-z : goal.float_to_bits-z
 float_to_bits-z c = c.requires.t_3
 
 pub far_above-requires : goal.far_above-requires
-far_above-requires c =
-    (
-      field_lt (to_bits binary64 c.args.x) c.field-ex.result c.field-ex.ensures,
-      (
-        field_lt (to_bits binary64 c.args.y) c.field-ey.result c.field-ey.ensures,
-        field_lt (to_bits binary64 c.args.z) c.field-ez.result c.field-ez.ensures,
-      ),
-    )
+far_above-requires c = (
+  field_lt (to_bits binary64 c.args.x) c.field-ex.result c.field-ex.ensures,
+  (
+    field_lt (to_bits binary64 c.args.y) c.field-ey.result c.field-ey.ensures,
+    field_lt (to_bits binary64 c.args.z) c.field-ez.result c.field-ez.ensures,
+  ),
+)
 
 pub fused_numbers-requires : goal.fused_numbers-requires
 fused_numbers-requires c =

@@ -9,9 +9,12 @@ jam-w-requires c = high_pos c.args.bh c.args.bl c.requires.lead₂ c.ranges.bl.f
 pub add-s-requires : goal.add-s-requires
 add-s-requires c =
     let b = c.args.bh * 2 ^ 64 + c.args.bl in
-    let w = c.jam-w.result in record { ah_bound = high_small c.args.ah c.args.al (c.args.ah * 2 ^ 64 + c.args.al) refl c.requires.top; bh_bound = high_small w.hi w.lo (w.hi * 2 ^ 64 + w.lo) refl
+    let w = c.jam-w.result in record {
+      ah_bound = high_small c.args.ah c.args.al (c.args.ah * 2 ^ 64 + c.args.al) refl c.requires.top;
+      bh_bound = high_small w.hi w.lo (w.hi * 2 ^ 64 + w.lo) refl
           (lt_of_le_of_lt (jam-le b (2 ^ (c.args.g - c.args.h)) (w.hi * 2 ^ 64 + w.lo) (pow_pos (c.args.g - c.args.h))
-          (lt_of_lt_of_le (pow_pos 126) c.requires.lead₂) c.jam-w.ensures) c.requires.top₂) }
+          (lt_of_lt_of_le (pow_pos 126) c.requires.lead₂) c.jam-w.ensures) c.requires.top₂);
+    }
 
 pub sub-d-requires : goal.sub-d-requires
 sub-d-requires c =

@@ -52,12 +52,15 @@ residual_word-g-requires c =
     c.wrapping_sub_u64-k.result c.wrapping_sub_u64-m.result = reach_is least_place c.field-ex.result c.field-ey.result c.wrapping_sub_u64-k.result c.wrapping_sub_u64-m.result (sym c.reach.ensures ∙ c.if-not-reach.false) in
     let product-sign : c.opposite-cp.result ≡ unlike (unlike (sign_of c.args.x) (sign_of c.args.y)) c.minus_sign-nt.result = c.opposite-cp.ensures ∙ ap (λ (w : Bool). unlike w c.minus_sign-nt.result) (c.opposite.ensures ∙ ap (λ (w : Bool). unlike w c.minus_sign-2.result) c.minus_sign.ensures ∙ ap (λ (w : Bool). unlike (sign_of c.args.x) w) c.minus_sign-2.ensures) in
     let addend-sign : c.opposite-cz.result ≡ unlike (sign_of c.args.z) c.minus_sign-nt.result = c.opposite-cz.ensures ∙ ap (λ (w : Bool). unlike w c.minus_sign-nt.result) c.minus_sign-3.ensures in
-    let ok = ok-there in record { k_bound = (ok.near_z, place-word c.wrapping_sub_u64-m.result ok.near_t); fits = close c.args.x c.args.y c.args.z held_x held-y held-z c.field-ex.result c.field-ey.result c.field.result
+    let ok = ok-there in record {
+      k_bound = (ok.near_z, place-word c.wrapping_sub_u64-m.result ok.near_t);
+      fits = close c.args.x c.args.y c.args.z held_x held-y held-z c.field-ex.result c.field-ey.result c.field.result
           c.field-2.result
           c.wrapping_sub_u64-k.result c.wrapping_sub_u64-m.result c.normal_significand.result c.normal_significand-2.result c.normal_significand-3.result c.normal_significand-4.result
           c.field-ex.ensures c.field-ey.ensures c.field.ensures c.field-2.ensures c.wrapping_sub_u64-k.ensures.value
           c.wrapping_sub_u64-m.ensures.value ok c.normal_significand.ensures c.normal_significand-2.ensures c.normal_significand-3.ensures c.normal_significand-4.ensures
-          c.minus_sign-nt.result c.opposite-cp.result c.opposite-cz.result c.minus_sign-nt.ensures product-sign addend-sign }
+          c.minus_sign-nt.result c.opposite-cp.result c.opposite-cz.result c.minus_sign-nt.ensures product-sign addend-sign;
+    }
 
 pub overflow_sub-ex : goal.overflow_sub-ex
 overflow_sub-ex c =

@@ -51,14 +51,17 @@ residual_word-g-requires c =
     c.wrapping_sub_u64-m.result = reach_is least_place c.field-ex.result c.field-ex.result c.wrapping_sub_u64-k.result c.wrapping_sub_u64-m.result (sym c.reach.ensures ∙ c.if-not-reach.false) in
     let z-plus : sign_of c.args.z ≡ false = lt-leb (2 ^ 63) (to_bits binary64 c.args.z) c.if-bz-ge-SIGN_BIT.false in
     let t-sign : sign_of (add binary64 (mul binary64 c.args.x c.args.x) c.args.z) ≡ false = t_plus c.args.x c.args.x c.args.z held_x held_x held-z c.field-ex.result c.field-ex.result c.field-ez.result c.field-et.result c.wrapping_sub_u64-k.result c.wrapping_sub_u64-m.result c.normal_significand-u.result c.normal_significand-u.result c.normal_significand.result c.normal_significand-2.result c.field-ex.ensures c.field-ex.ensures c.field-ez.ensures c.field-et.ensures c.wrapping_sub_u64-k.ensures.value c.wrapping_sub_u64-m.ensures.value ok-there c.normal_significand-u.ensures c.normal_significand-u.ensures c.normal_significand.ensures c.normal_significand-2.ensures (square-plus (sign_of c.args.x)) z-plus in
-    let ok = ok-there in record { k_bound = (ok.near_z, place-word c.wrapping_sub_u64-m.result ok.near_t); fits = close c.args.x c.args.x c.args.z held_x held_x held-z c.field-ex.result c.field-ex.result c.field-ez.result
+    let ok = ok-there in record {
+      k_bound = (ok.near_z, place-word c.wrapping_sub_u64-m.result ok.near_t);
+      fits = close c.args.x c.args.x c.args.z held_x held_x held-z c.field-ex.result c.field-ex.result c.field-ez.result
           c.field-et.result
           c.wrapping_sub_u64-k.result c.wrapping_sub_u64-m.result c.normal_significand-u.result c.normal_significand-u.result c.normal_significand.result
           c.normal_significand-2.result
           c.field-ex.ensures c.field-ex.ensures c.field-ez.ensures c.field-et.ensures c.wrapping_sub_u64-k.ensures.value
           c.wrapping_sub_u64-m.ensures.value
           ok c.normal_significand-u.ensures c.normal_significand-u.ensures c.normal_significand.ensures c.normal_significand-2.ensures false false false
-          (sym t-sign) (product-sign (sign_of c.args.x)) (addend-sign (sign_of c.args.z) z-plus) }
+          (sym t-sign) (product-sign (sign_of c.args.x)) (addend-sign (sign_of c.args.z) z-plus);
+    }
 
 pub overflow_sub-ex : goal.overflow_sub-ex
 overflow_sub-ex c =
