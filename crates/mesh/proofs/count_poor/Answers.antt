@@ -1,7 +1,6 @@
 -- `poor` counts the poor panels below `i`.
 use mathlib.Core.Path.{◌≡◌, refl, sym, ap, ◌∙◌}
 use mathlib.Core.Bool.{Bool}
-use mathlib.Core.Logic.{⊎_elim}
 use Prim.Native.Nat.{ℕ, ◌<◌, ◌-◌, ◌+◌}
 use native.Mathlib.Omega.{arith}
 use lib.ListN.{length}
@@ -9,6 +8,7 @@ use Rattle.lists.specs.Counting.{count_below}
 use Rattle.lists.proofs.Counting.{count_on, count_off, count_bound}
 use Rattle.mesh.specs.Mesh.{mesh_of, triangle_nodes, is_poor, poor_panels}
 use Rattle.mesh.proofs.count_poor.Goals as goal
+use Rattle.mesh.proofs.count_poor.Goals.{then-is_poor, else-is_poor}
 
 pub loop-i-init : goal.loop-i-init
 unfolding count_below
@@ -31,10 +31,7 @@ loop-i-preserved c =
     let l = c.loop-i in
     let t : ℕ → Bool = λ k. is_poor (triangle_nodes (mesh_of a.x.now a.y.now a.z.now a.t0.now a.t1.now a.t2.now) k) in
     let e = sym (c.is_poor.ensures ∙ ap is_poor c.triangle_nodes.ensures) in
-    ⊎_elim
-    (λ w. (omega arith, w.1 ∙ ap (λ (n : ℕ). n + 1) l.invariant.1 ∙ sym (count_on t l.i (e ∙ w.0.taken))))
-    (λ w. (omega arith, w.1 ∙ l.invariant.1 ∙ sym (count_off t l.i (e ∙ w.0.left))))
-    c.if-is_poor.branch
+    elim c.if-is_poor.branch [ then-is_poor w ↦ (omega arith, w.poor-is ∙ ap (λ (n : ℕ). n + 1) l.invariant.1 ∙ sym (count_on t l.i (e ∙ w.if-is_poor.true))) | else-is_poor w ↦ (omega arith, w.poor-is ∙ l.invariant.1 ∙ sym (count_off t l.i (e ∙ w.if-is_poor.false))) ]
 
 pub returns : goal.returns
 unfolding poor_panels
