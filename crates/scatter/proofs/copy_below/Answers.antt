@@ -14,7 +14,8 @@ loop-row-init c =
 pub copy_row_below-requires : goal.copy_row_below-requires
 copy_row_below-requires c =
     let links = c.link_marked.new.links in
-    row_ready c.args.marks.now links c.loop-row.invariant c.requires c.loop-row-test.true (search rules) c.link_marked.ensures
+    let w = row_ready c.args.marks.now links c.loop-row.invariant c.requires c.loop-row-test.true (search rules) c.link_marked.ensures in
+    record { sized = w.0; b_lt_n = w.1 }
 
 pub loop-row-preserved : goal.loop-row-preserved
 loop-row-preserved c =

@@ -8,7 +8,7 @@ use Rattle.scatter.proofs.Links.{row-marked, next_linked}
 use Rattle.scatter.proofs.next_named.Goals as goal
 
 pub bounds-marks-row : goal.bounds-marks-row
-bounds-marks-row c = let w = c.requires in omega (arith, w.0.0, w.1.0 c.if-n-col.false)
+bounds-marks-row c = let w = c.requires in omega (arith, w.n_in_bounds.0, w.row_lt_n.0 c.if-n-col.false)
 
 pub returns-then-n-col : goal.returns-then-n-col
 returns-then-n-col c = let a = c.args in past_end (named (marked a.marks.now) a.row) a.n a.col c.if-n-col.true

@@ -1,5 +1,4 @@
 -- By cases on whether the pair is one panel with itself, as the definition is.
-use borrow.Author.Tests.{not-true, not-false}
 use Rattle.lists.specs.Counting.{triple}
 use Rattle.scatter.specs.Entries.{block_entries}
 use Rattle.scatter.specs.Renewal.{marked}
@@ -9,11 +8,11 @@ use Rattle.scatter.proofs.scatter_pair.Goals as goal
 pub returns-then-not-same : goal.returns-then-not-same
 returns-then-not-same c =
     let a = c.args in
-    rw (not-true a.same (ap not c.if-not-same.true))
+    rw c.if-not-same.true
     (both_added (marked a.marks.now) a.n a.out.now (block_entries (triple a.s) (triple a.t) a.b 0) c.scatter_triangle_block.ensures c.scatter_triangle_block-then-not-same.ensures)
 
 pub returns-else-not-same : goal.returns-else-not-same
 returns-else-not-same c =
     let a = c.args in
-    rw (not-false a.same (ap not c.if-not-same.false))
+    rw c.if-not-same.false
     (one-added (marked a.marks.now) a.n a.out.now (block_entries (triple a.s) (triple a.t) a.b 0) c.scatter_triangle_block.ensures)

@@ -7,6 +7,3 @@ use Rattle.shape_store.proofs.name_place.Goals as goal
 pub returns-then-is_new : goal.returns-then-is_new
 returns-then-is_new c =
     record { marks_value = rw (← c.find_name-is_new.ensures, c.if-is_new.true); names_value = rw (← c.find_name-is_new.ensures, c.if-is_new.true) (put_paste name_length (search rules) c.put.ensures) }
-
-pub returns-else-is_new : goal.returns-else-is_new
-returns-else-is_new c = record { marks_value = rw (← c.find_name-is_new.ensures, c.if-is_new.false); names_value = rw (← c.find_name-is_new.ensures, c.if-is_new.false) }

@@ -60,4 +60,4 @@ returns c =
     let e = c.save_coordinates.ensures in
     let k = c.name_place.ensures in
     save_done lent store c.args.name.now c.place_for-p.result _ accepted c.place_for-p.ensures
-    (record { marks = k.0; names = k.1; xs = e.0; ys = e.1.0; zs = e.1.1 })
+    (record { marks = k.marks_value; names = k.names_value; xs = e.sx_value; ys = e.sy_value; zs = e.sz_value })

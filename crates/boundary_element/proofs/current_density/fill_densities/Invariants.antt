@@ -9,8 +9,8 @@ use Rattle.mesh.specs.Mesh.{mesh_of}
 use Rattle.boundary_element.specs.CurrentDensity.{panel_density}
 use Rattle.boundary_element.proofs.current_density.fill_densities.Given as goal
 
-pub -- component k of the panels' densities
-abbrev component : List Float → List Float → List Float → List ℕ → List ℕ → List ℕ → List Float → ℕ → ℕ → Float
+-- component k of the panels' densities
+abbrev pub component : List Float → List Float → List Float → List ℕ → List ℕ → List ℕ → List Float → ℕ → ℕ → Float
 component x y z t0 t1 t2 s k i = at (panel_density (mesh_of x y z t0 t1 t2) s i) k
 
 abbrev pub invariant-loop-i : goal.invariant-loop-i

@@ -77,7 +77,6 @@ shape_of-pw c = panels-long c.loop-i.invariant.3
 pub returns : goal.returns
 unfolding mesh_points mesh_weights
 returns c =
-    let below : c.loop-i.i < length c.args.t0.now = omega (arith, c.loop-i-test.true) in
     let l = c.loop-i in
     let e : l.i ≡ length c.args.t0.now = omega (arith, c.loop-i-test.false, l.invariant.0.below) in
     record { x = panels_end l.invariant.0 e; y = panels_end l.invariant.1 e; z = panels_end l.invariant.2 e; weights = panels_end l.invariant.3 e }

@@ -10,7 +10,7 @@ refused e = omega arith
 
 pub returns-in-Known : goal.returns-in-Known
 returns-in-Known c =
-    rw (← c.quadrature_rule-known.ensures, c.known-1.given.1) c.points_under.ensures
+    rw (← c.quadrature_rule-known.ensures, c.in-Known.is) c.points_under.ensures
 
 pub returns-in-Unknown : goal.returns-in-Unknown
 returns-in-Unknown c =
