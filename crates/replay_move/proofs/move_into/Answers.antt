@@ -25,13 +25,13 @@ pub bounds-place-2 : goal.bounds-place-2
 bounds-place-2 c = le-add_right 3 0
 
 pub shape_of-x : goal.shape_of-x
-shape_of-x c = c.move_node-moved.auto.1.0
+shape_of-x c = c.move_node-moved.auto.x
 
 pub shape_of-y : goal.shape_of-y
-shape_of-y c = c.move_node-moved.auto.1.1.0
+shape_of-y c = c.move_node-moved.auto.y
 
 pub shape_of-z : goal.shape_of-z
-shape_of-z c = c.move_node-moved.auto.1.1.1.0
+shape_of-z c = c.move_node-moved.auto.z
 
 pub shape_of-cells : goal.shape_of-cells
-shape_of-cells c = c.move_node-moved.auto.1.1.1.1.1.1.1.0
+shape_of-cells c = c.move_node-moved.auto.out

@@ -2,7 +2,6 @@
 use Prim.Native.Nat.{◌+◌}
 use lib.ListN.{length, drop}
 use native.Mathlib.Nat.{le-add_right}
-use borrow.Author.Rules.{zero≤}
 use Rattle.replay_words.proofs.Copy.{copy_long}
 use Rattle.replay_columns.proofs.Leaving.{cells_short, column_short}
 use Rattle.replay_move.proofs.Moved.{behind_inside, behind-mesh, results_inside}
@@ -74,38 +73,14 @@ copied-ys-requires c = column_short _ c.requires.2
 pub copied-zs-requires : goal.copied-zs-requires
 copied-zs-requires c = column_short _ c.requires.3
 
-pub slice_bounds-move_into-count : goal.slice_bounds-move_into-count
-slice_bounds-move_into-count c = zero≤
-
-pub slice_bounds-xs-start : goal.slice_bounds-xs-start
-slice_bounds-xs-start c = zero≤
-
 pub slice_bounds-xs-end : goal.slice_bounds-xs-end
 slice_bounds-xs-end c = copy_long _ c.copied-xs.result c.copied-xs.ensures
-
-pub slice_bounds-move_into-count-2 : goal.slice_bounds-move_into-count-2
-slice_bounds-move_into-count-2 c = zero≤
-
-pub slice_bounds-ys-start : goal.slice_bounds-ys-start
-slice_bounds-ys-start c = zero≤
 
 pub slice_bounds-ys-end : goal.slice_bounds-ys-end
 slice_bounds-ys-end c = copy_long _ c.copied-ys.result c.copied-ys.ensures
 
-pub slice_bounds-move_into-count-3 : goal.slice_bounds-move_into-count-3
-slice_bounds-move_into-count-3 c = zero≤
-
-pub slice_bounds-zs-start : goal.slice_bounds-zs-start
-slice_bounds-zs-start c = zero≤
-
 pub slice_bounds-zs-end : goal.slice_bounds-zs-end
 slice_bounds-zs-end c = copy_long _ c.copied-zs.result c.copied-zs.ensures
-
-pub slice_bounds-move_into-count-4 : goal.slice_bounds-move_into-count-4
-slice_bounds-move_into-count-4 c = zero≤
-
-pub slice_bounds-cs-start : goal.slice_bounds-cs-start
-slice_bounds-cs-start c = zero≤
 
 pub slice_bounds-cs-end : goal.slice_bounds-cs-end
 slice_bounds-cs-end c = copy_long _ _ c.copied-cs.ensures

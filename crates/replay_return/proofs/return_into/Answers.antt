@@ -44,13 +44,13 @@ pub overflow_add-e : goal.overflow_add-e
 overflow_add-e c = next_fits _ _ c.requires.q_bound.0 c.part_at-e.ensures.1
 
 pub shape_of-x : goal.shape_of-x
-shape_of-x c = c.return_shape-returned.auto.1.0
+shape_of-x c = c.return_shape-returned.auto.x
 
 pub shape_of-y : goal.shape_of-y
-shape_of-y c = c.return_shape-returned.auto.1.1.0
+shape_of-y c = c.return_shape-returned.auto.y
 
 pub shape_of-z : goal.shape_of-z
-shape_of-z c = c.return_shape-returned.auto.1.1.1.0
+shape_of-z c = c.return_shape-returned.auto.z
 
 pub shape_of-cells : goal.shape_of-cells
-shape_of-cells c = c.return_shape-returned.auto.1.1.1.1.1.1.1.0
+shape_of-cells c = c.return_shape-returned.auto.out

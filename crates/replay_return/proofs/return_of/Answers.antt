@@ -3,7 +3,6 @@ use lib.ListN.{length, drop}
 use Prim.Native.Nat.{◌+◌}
 use native.Mathlib.Nat.{le-add_right}
 use native.Mathlib.Omega.{arith}
-use borrow.Author.Rules.{zero≤}
 use Rattle.lists.proofs.Indices.{index_fits}
 use Rattle.replay_words.proofs.Copy.{copy_long}
 use Rattle.replay_columns.proofs.Leaving.{cells_short, column_short}
@@ -56,38 +55,14 @@ copied-zs-requires c = column_short _ c.requires.3
 pub copied-cs-requires : goal.copied-cs-requires
 copied-cs-requires c = cells_short _ _ _ _ c.cut_at.ensures.1
 
-pub slice_bounds-return_into-count : goal.slice_bounds-return_into-count
-slice_bounds-return_into-count c = zero≤
-
-pub slice_bounds-xs-start : goal.slice_bounds-xs-start
-slice_bounds-xs-start c = zero≤
-
 pub slice_bounds-xs-end : goal.slice_bounds-xs-end
 slice_bounds-xs-end c = copy_long _ c.copied-xs.result c.copied-xs.ensures
-
-pub slice_bounds-return_into-count-2 : goal.slice_bounds-return_into-count-2
-slice_bounds-return_into-count-2 c = zero≤
-
-pub slice_bounds-ys-start : goal.slice_bounds-ys-start
-slice_bounds-ys-start c = zero≤
 
 pub slice_bounds-ys-end : goal.slice_bounds-ys-end
 slice_bounds-ys-end c = copy_long _ c.copied-ys.result c.copied-ys.ensures
 
-pub slice_bounds-return_into-count-3 : goal.slice_bounds-return_into-count-3
-slice_bounds-return_into-count-3 c = zero≤
-
-pub slice_bounds-zs-start : goal.slice_bounds-zs-start
-slice_bounds-zs-start c = zero≤
-
 pub slice_bounds-zs-end : goal.slice_bounds-zs-end
 slice_bounds-zs-end c = copy_long _ c.copied-zs.result c.copied-zs.ensures
-
-pub slice_bounds-return_into-count-4 : goal.slice_bounds-return_into-count-4
-slice_bounds-return_into-count-4 c = zero≤
-
-pub slice_bounds-cs-start : goal.slice_bounds-cs-start
-slice_bounds-cs-start c = zero≤
 
 pub slice_bounds-cs-end : goal.slice_bounds-cs-end
 slice_bounds-cs-end c = copy_long _ _ c.copied-cs.ensures

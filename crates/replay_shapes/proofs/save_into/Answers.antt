@@ -17,16 +17,16 @@ pub overflow_add-e : goal.overflow_add-e
 overflow_add-e c = next_fits _ c.requires.e_bound.0
 
 pub shape_of-marks : goal.shape_of-marks
-shape_of-marks c = c.save_shape-refusal.auto.1.1.1.1.1.1.0
+shape_of-marks c = c.save_shape-refusal.auto.marks
 
 pub shape_of-names : goal.shape_of-names
-shape_of-names c = c.save_shape-refusal.auto.1.1.1.1.1.1.1.0
+shape_of-names c = c.save_shape-refusal.auto.names
 
 pub shape_of-sx : goal.shape_of-sx
-shape_of-sx c = c.save_shape-refusal.auto.1.1.1.1.1.1.1.1.0
+shape_of-sx c = c.save_shape-refusal.auto.sx
 
 pub shape_of-sy : goal.shape_of-sy
-shape_of-sy c = c.save_shape-refusal.auto.1.1.1.1.1.1.1.1.1.0
+shape_of-sy c = c.save_shape-refusal.auto.sy
 
 pub shape_of-sz : goal.shape_of-sz
-shape_of-sz c = c.save_shape-refusal.auto.1.1.1.1.1.1.1.1.1.1.0
+shape_of-sz c = c.save_shape-refusal.auto.sz
