@@ -5,8 +5,8 @@ use Rattle.replay_shapes.proofs.save_into.Goals as goal
 pub saved_as_due-requires : goal.saved_as_due-requires
 saved_as_due-requires c =
     let h = c.requires in
-    let k = c.save_shape-refusal.auto.sx in
-    record { k_bound = (next_inside _ h.0.0, h.0.1); as_long = as_long _ _ _ h.1 k.0 k.1.0 k.1.1.0 }
+    let k = c.save_shape-refusal.auto in
+    record { k_bound = (next_inside _ h.e_bound.0, h.e_bound.1); as_long = as_long _ _ _ h.sz_value k.sx k.sy k.sz }
 
 pub returns : goal.returns
 returns c =
