@@ -44,4 +44,4 @@ returns-else-next_named-t0 c =
     no_sources (marked a.marks.now) (nnode m) (mutual_inductance_block a.kind) m a.out.now (none-flagged m a.marks.now a.flags.now n.result c.requires.scanned.flagged n.ensures c.if-next_named-t0.false) (ntri m) 0 (omega arith)
 
 pub shape_of-out : goal.shape_of-out
-shape_of-out c = c.add_sources.auto.1.1.1.1.1.1.1.1.1.1.1.0
+shape_of-out c = c.add_sources.auto.out
