@@ -11,8 +11,9 @@ name_at-name-requires c = name_inside _ _ c.requires.q_bound.0 c.part_at-e.ensur
 pub left_as_due-requires : goal.left_as_due-requires
 left_as_due-requires c =
     let h = c.requires in
-    let k = c.return_shape-returned.auto.x in
-    as_long _ _ _ _ _ (results_inside _ _ _ _ _ _ c.part_at-e.ensures.1 h.0.1) h.1 k.0 k.1.0 k.1.1.0 k.1.1.1.1.1.1.0
+    let k = c.return_shape-returned.auto in
+    let l = as_long _ _ _ _ _ (results_inside _ _ _ _ _ _ c.part_at-e.ensures.1 h.q_bound.1) h.x_value k.x k.y k.z k.out in
+    record { z_bound = l.0; as_long = l.1 }
 
 pub returns : goal.returns
 returns c =

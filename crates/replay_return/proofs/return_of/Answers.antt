@@ -6,15 +6,14 @@ use native.Mathlib.Omega.{arith}
 use Rattle.lists.proofs.Indices.{index_fits}
 use Rattle.replay_words.proofs.Copy.{copy_long}
 use Rattle.replay_columns.proofs.Leaving.{cells_short, column_short}
-use Rattle.replay_return.proofs.Returned.{Places, behind-mesh, mesh_inside, places, store_inside}
+use Rattle.replay_return.proofs.Returned.{behind-mesh, mesh_inside, places, store_inside}
 use Rattle.replay_return.proofs.return_of.Goals as goal
 
 pub return_into-requires : goal.return_into-requires
 return_into-requires c =
-    let within : Places c.args.g c.cut_at.result = places _ _ c.requires.0 c.cut_at.ensures.1 in
     let a = c.args in
     let l = store_inside a.g c.cut_at.result (length a.x.now) (length a.y.now) (length a.z.now) (drop (a.g + 1) a.f.now) c.requires c.cut_at.ensures.1 in
-    record { q_bound = (within.store, l); x_value = (c.copied-xs.ensures, c.copied-ys.ensures, c.copied-zs.ensures, c.copied-cs.ensures) }
+    record { q_bound = ((places c.args.g c.cut_at.result c.requires.0 c.cut_at.ensures.1).store, l); x_value = (c.copied-xs.ensures, c.copied-ys.ensures, c.copied-zs.ensures, c.copied-cs.ensures) }
 
 pub returns : goal.returns
 returns c =
@@ -29,13 +28,13 @@ pub cut_at-requires : goal.cut_at-requires
 cut_at-requires c = mesh_inside _ c.requires.0
 
 pub overflow_add-q-2 : goal.overflow_add-q-2
-overflow_add-q-2 c = (within c).matrix_end
+overflow_add-q-2 c = (places c.args.g c.cut_at.result c.requires.0 c.cut_at.ensures.1).matrix_end
 
 pub overflow_add-cells : goal.overflow_add-cells
-overflow_add-cells c = (within c).one
+overflow_add-cells c = (places c.args.g c.cut_at.result c.requires.0 c.cut_at.ensures.1).one
 
 pub offset_bounds-all-g : goal.offset_bounds-all-g
-offset_bounds-all-g c = (within c).one-bytes
+offset_bounds-all-g c = (places c.args.g c.cut_at.result c.requires.0 c.cut_at.ensures.1).one-bytes
 
 pub slice_bounds-cells-count : goal.slice_bounds-cells-count
 slice_bounds-cells-count c = le-add_right _ _
