@@ -10,10 +10,10 @@ rm -f "$archive"
 mkdir -p "$folder"
 work=$(mktemp -d "$folder/join.XXXXXX")
 trap 'rm -rf "$work"' EXIT
-for part in screens_panels screens_assembly screens_meshes; do
-  rt staticlib "$part"
+for part in screens_panels screens_assembly_c screens_meshes; do
+  (cd "crates/$part" && rt lib)
   mkdir "$work/$part"
-  library=$PWD/$folder/lib$part.a
+  library=$PWD/crates/$part/out/lib$part.a
   (cd "$work/$part" && ar x "$library")
 done
 # q and not r, which keeps one of two members of the same name; D: the same bytes from the same objects

@@ -28,7 +28,7 @@ use Rattle.fused_lanes.proofs.Laws.Around.{Around, plus_round, times_round}
 use Rattle.fused_lanes.proofs.Laws.Square.{Residual, square_residual_lem, large_X, small_X}
 use Rattle.fused_lanes.proofs.Laws.Tail.{tail}
 use Rattle.fused_lanes.proofs.Laws.Margin.{Sizes, margin}
-use Rattle.fused_lanes.proofs.Laws.Pattern.{Digits, digits, order, positive_value, small_positive, large_positive, Operand, operand}
+use Rattle.fused_lanes.proofs.Laws.Pattern.{Digits, digits, order, positive_value, unit-value, small_positive, large_positive, Operand, operand}
 use Rattle.binary64.specs.Format.{lowest, trailing}
 
 -- ---- the tail, whichever term is larger
@@ -65,14 +65,17 @@ module _ (s : Float) (t : ℕ) (lo : lowest ≤ t) (hi : t ≤ (place_top - 100)
   sum_tail : (q z : Float) (Q Z : ℕ) → Digits Q → Digits Z → 0 < Q → 0 < Z → HasValue q false Q (2 ^ lowest) → HasValue z false Z (2 ^ lowest)
       → Tail s t (Q + Z) (sum_residual q z s)
   unfolding sum_residual
-  sum_tail q z Q Z D E some some-z X Y = go (lt z q) refl
+  sum_tail q z Q Z D E some some-z X Y = go _ below above
     where
       below : lt z q ≡ true → Z ≤ Q
       below e = order z q Z Q (positive_of_value z Z (2 ^ lowest) Y some-z) (positive_of_value q Q (2 ^ lowest) X some) Y X (less_le z q e)
 
-      go : (b : Bool) → lt z q ≡ b → Tail s t (Q + Z) (cond b z q ⊖ (s ⊖ cond b q z))
-      go true e = ordered_tail q z Q Z D X Y (below e)
-      go false e = subst (λ (n : ℕ). Tail s t n (q ⊖ (s ⊖ z))) (add_comm Z Q) (ordered_tail z q Z Q E Y X (not_less z q Z Q (2 ^ lowest) (pow_pos lowest) Y X e))
+      above : lt z q ≡ false → Q ≤ Z
+      above e = not_less z q Z Q (2 ^ lowest) (pow_pos lowest) Y X e
+
+      go : (b : Bool) → (b ≡ true → Z ≤ Q) → (b ≡ false → Q ≤ Z) → Tail s t (Q + Z) (cond b z q ⊖ (s ⊖ cond b q z))
+      go true l g = ordered_tail q z Q Z D X Y (l refl)
+      go false l g = subst (λ (n : ℕ). Tail s t n (q ⊖ (s ⊖ z))) (add_comm Z Q) (ordered_tail z q Z Q E Y X (g refl))
 
 -- ---- the constants
 
@@ -91,10 +94,6 @@ z_small_positive = tt
 z_large_positive : T (positive two_to400)
 unfolding of_bits
 z_large_positive = tt
-
-unit-value : HasValue two_to_minus70 false (2 ^ (lowest - 70)) (2 ^ lowest)
-unfolding of_bits
-unit-value = (refl, refl)
 
 -- ---- numbers: k is the error of the square x, and q its rounded value
 

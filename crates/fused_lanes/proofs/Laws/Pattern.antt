@@ -13,13 +13,13 @@ use lib.Ieee.Fits.{cond-fits}
 use lib.Ieee.Exact.{HasValue}
 use lib.Ieee.Positive.{positive, positive-finite, values_of_le}
 use lib.Ieee.Scale.{finite}
-use Rattle.binary64.specs.Binary64.{bits, plus_zero}
+use Rattle.binary64.specs.Binary64.{bits}
 use Rattle.binary64.specs.Pattern.{significand_of, exponent_of, mag}
 use Rattle.binary64.proofs.Pattern.{bits-value, significand-low, significand-high}
 use Rattle.binary64.proofs.Size.{exponent_lt, exponent-le}
 use Rattle.binary64.proofs.Reading.{abs_of, sign_of, read_plain, read-inf}
 use Rattle.binary64.proofs.Values.{value-one, value_finite}
-use Rattle.fused_lanes.specs.Lanes.{two_to_minus200, two_to200, number, magnitude_or_zero, leading}
+use Rattle.fused_lanes.specs.Lanes.{two_to_minus200, two_to_minus70, two_to200, number, magnitude_or_zero, leading}
 use Rattle.binary64.specs.Format.{infinity_bits, lowest, trailing}
 
 -- ---- patterns of numbers
@@ -37,7 +37,7 @@ number-pattern y F h =
 
 pub number_fits : (x : Float) → T (fits binary64 x) → T (fits binary64 (number x))
 unfolding number
-number_fits x F = cond-fits binary64 (eq x x) x plus_zero F (of_bits-fits binary64 0)
+number_fits x F = cond-fits binary64 (eq x x) x _ F (of_bits-fits binary64 _)
 
 -- ---- finite values
 
@@ -119,15 +119,15 @@ pub record Operand (x : Float) : Type 0 where
   pub lead : HasValue (leading (magnitude_or_zero x)) false (m / 2 ^ 27 * 2 ^ 27 * 2 ^ p) (2 ^ lowest)
 
 -- |x| is not 0, so x is no NaN
-zero_bits : T (positive (bits (to_bits binary64 plus_zero % 2 ^ 63))) → ⊥
-unfolding of_bits to_bits
+zero_bits : T (positive (bits (to_bits binary64 (number nan) % 2 ^ 63))) → ⊥
+unfolding number eq of_bits to_bits
 zero_bits t = t
 
 number_is : (x : Float) → T (positive (bits (magnitude_or_zero x))) → number x ≡ x
-unfolding number magnitude_or_zero
+unfolding number magnitude_or_zero eq
 number_is x = go (eq x x)
   where
-    go : (b : Bool) → T (positive (bits (to_bits binary64 (cond b x plus_zero) % 2 ^ 63))) → cond b x plus_zero ≡ x
+    go : (b : Bool) → T (positive (bits (to_bits binary64 (cond b x (number nan)) % 2 ^ 63))) → cond b x (number nan) ≡ x
     go true t = refl
     go false t = absurd (zero_bits t)
 
@@ -166,6 +166,10 @@ small-value = (refl, refl)
 large_value : HasValue two_to200 false (2 ^ (lowest + 200)) (2 ^ lowest)
 unfolding of_bits
 large_value = (refl, refl)
+
+pub unit-value : HasValue two_to_minus70 false (2 ^ (lowest - 70)) (2 ^ lowest)
+unfolding of_bits
+unit-value = (refl, refl)
 
 pub small_positive : T (positive two_to_minus200)
 unfolding of_bits

@@ -50,13 +50,13 @@ returns c =
     (front_at _ _ p (difference a.c.now a.z.now a.n) k z.ensures m))
 
 pub slice_bounds-norms-end : goal.slice_bounds-norms-end
-slice_bounds-norms-end c = sym c.differences.auto.1.1.1.0
+slice_bounds-norms-end c = sym c.differences.auto.out
 
 pub slice_bounds-norms-end-2 : goal.slice_bounds-norms-end-2
-slice_bounds-norms-end-2 c = sym c.differences-2.auto.1.1.1.0
+slice_bounds-norms-end-2 c = sym c.differences-2.auto.out
 
 pub slice_bounds-norms-end-3 : goal.slice_bounds-norms-end-3
-slice_bounds-norms-end-3 c = sym c.differences-3.auto.1.1.1.0
+slice_bounds-norms-end-3 c = sym c.differences-3.auto.out
 
 pub shape_of-out : goal.shape_of-out
-shape_of-out c = c.norms.auto.1.1.1.1.0
+shape_of-out c = c.norms.auto.out

@@ -28,13 +28,13 @@ pub returns : goal.returns
 returns c = c.lengths.ensures
 
 pub slice_bounds-estimates-end : goal.slice_bounds-estimates-end
-slice_bounds-estimates-end c = sym c.square_lanes.auto.1.1.1.1.0
+slice_bounds-estimates-end c = sym c.square_lanes.auto.out
 
 pub slice_bounds-lengths-end : goal.slice_bounds-lengths-end
-slice_bounds-lengths-end c = sym c.square_lanes.auto.1.1.1.1.0
+slice_bounds-lengths-end c = sym c.square_lanes.auto.out
 
 pub slice_bounds-lengths-end-2 : goal.slice_bounds-lengths-end-2
-slice_bounds-lengths-end-2 c = sym c.estimates.auto.1.1.0
+slice_bounds-lengths-end-2 c = sym c.estimates.auto.out
 
 pub shape_of-out : goal.shape_of-out
-shape_of-out c = c.lengths.auto.1.1.1.1.1.1.0
+shape_of-out c = c.lengths.auto.out
