@@ -14,10 +14,10 @@ returns c =
     let d = c.put_field-c in
     let e = c.put_field-d in
     let f = c.put in
-    both c.args.out.now c.args.from (decimal c.args.i) _ _ _ _ _ (omega (arith, c.requires, decimal_short c.args.i, field-length (at c.args.t4 0), field-length (at c.args.t4 1), field-length (at c.args.t4 2))) a.ensures
-    (both a.new.out a.result (field (at c.args.t4 0)) _ _ _ _ _ (omega (arith, c.requires, decimal_short c.args.i, field-length (at c.args.t4 0), field-length (at c.args.t4 1), field-length (at c.args.t4 2))) b.ensures
-    (both b.new.out b.result (field (at c.args.t4 1)) _ _ _ _ _ (omega (arith, c.requires, decimal_short c.args.i, field-length (at c.args.t4 0), field-length (at c.args.t4 1), field-length (at c.args.t4 2))) d.ensures
-    (both d.new.out d.result (field (at c.args.t4 2)) _ _ _ _ _ (omega (arith, c.requires, decimal_short c.args.i, field-length (at c.args.t4 0), field-length (at c.args.t4 1), field-length (at c.args.t4 2))) e.ensures
+    both c.args.out.now c.args.from (decimal c.args.i) _ _ _ _ _ (omega (arith, c.requires, decimal_short c.args.i, field-length (at c.args.j 0), field-length (at c.args.j 1), field-length (at c.args.j 2))) a.ensures
+    (both a.new.out a.result (field (at c.args.j 0)) _ _ _ _ _ (omega (arith, c.requires, decimal_short c.args.i, field-length (at c.args.j 0), field-length (at c.args.j 1), field-length (at c.args.j 2))) b.ensures
+    (both b.new.out b.result (field (at c.args.j 1)) _ _ _ _ _ (omega (arith, c.requires, decimal_short c.args.i, field-length (at c.args.j 0), field-length (at c.args.j 1), field-length (at c.args.j 2))) d.ensures
+    (both d.new.out d.result (field (at c.args.j 2)) _ _ _ _ _ (omega (arith, c.requires, decimal_short c.args.i, field-length (at c.args.j 0), field-length (at c.args.j 1), field-length (at c.args.j 2))) e.ensures
     f.ensures)))
 
 pub put_field-b-requires : goal.put_field-b-requires
@@ -29,14 +29,14 @@ pub put_field-c-requires : goal.put_field-c-requires
 put_field-c-requires c =
     let a = c.put_decimal-a in
     let b = c.put_field-b in
-    omega (arith, c.requires, decimal_short c.args.i, field-length (at c.args.t4 0))
+    omega (arith, c.requires, decimal_short c.args.i, field-length (at c.args.j 0))
 
 pub put_field-d-requires : goal.put_field-d-requires
 put_field-d-requires c =
     let a = c.put_decimal-a in
     let b = c.put_field-b in
     let d = c.put_field-c in
-    omega (arith, c.requires, decimal_short c.args.i, field-length (at c.args.t4 0), field-length (at c.args.t4 1))
+    omega (arith, c.requires, decimal_short c.args.i, field-length (at c.args.j 0), field-length (at c.args.j 1))
 
 pub put-requires : goal.put-requires
 put-requires c =
@@ -44,4 +44,4 @@ put-requires c =
     let b = c.put_field-b in
     let d = c.put_field-c in
     let e = c.put_field-d in
-    omega (arith, c.requires, decimal_short c.args.i, field-length (at c.args.t4 0), field-length (at c.args.t4 1), field-length (at c.args.t4 2))
+    omega (arith, c.requires, decimal_short c.args.i, field-length (at c.args.j 0), field-length (at c.args.j 1), field-length (at c.args.j 2))

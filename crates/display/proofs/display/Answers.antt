@@ -6,6 +6,7 @@ use native.Mathlib.Omega.{arith}
 use borrow.Author.Tests.{lt-ltb}
 use lib.Dec.{T}
 use lib.Ieee.{binary64, fits, is_nan, to_bits}
+use mir.Syntax.{w64}
 use mir.Facts.{to_z-of_z}
 use Rattle.binary64.specs.Pattern.{significand_of, exponent_of}
 use Rattle.ieee754.proofs.Signs.{no_nan}
@@ -59,4 +60,4 @@ returns c =
     let sized : SizeIs c.args.x (size_of (to_bits binary64 c.abs-b.result)) = from-pattern _ _ known.stands (omega arith) in
     let computed : SizeIs c.args.x c.nanohenries-size.result = let e = c.nanohenries-size.ensures ∙ (λ i. Spec.nanohenries (c.significand.ensures.value i * 2 ^ c.exponent.ensures i) (2 ^ 1074)) in subst (λ (n : ℕ). SizeIs c.args.x n) (sym e) sized in
     accepted _ c.nanohenries-size.result _ computed (omega arith)
-    (to_z-of_z (record { sfits = c.with_sign.type_inv }) ∙ c.with_sign.ensures ∙ ap (λ s. Spec.with_sign s c.nanohenries-size.result) c.is_sign_negative.ensures)
+    (to_z-of_z {w = w64} (record { sfits = c.with_sign.type_inv }) ∙ c.with_sign.ensures ∙ ap (λ s. Spec.with_sign s c.nanohenries-size.result) c.is_sign_negative.ensures)

@@ -10,7 +10,6 @@ use Rattle.binary64.proofs.Whole.{closest_stays, closest_next}
 use Rattle.display.specs.Display as Spec
 use Rattle.display.proofs.Rounding.{from-units}
 use Rattle.display.proofs.nanohenries.Goals as goal
-use Rattle.display.proofs.nanohenries.Tie as tie
 
 -- what the shift by 1043 - p leaves in a word
 abbrev den : ℕ → ℕ
@@ -25,10 +24,6 @@ in_word : (p : ℕ) → 980 ≤ p → p ≤ 1041 → (0 < den p) × (den p ≤ 2
 in_word p lo hi =
     let k : 1043 - p ≤ 63 = omega arith in
     rw (power p lo hi) (pow_pos (1043 - p), pow_mono k)
-
--- UNPLACED
-rem-if1 : tie.Need-nonzero-rem-if1
-rem-if1 c = (divisor c).0
 
 pub nonzero_div-q : goal.nonzero_div-q
 nonzero_div-q c =

@@ -1,6 +1,6 @@
 -- The fields, put one behind the other.
 use borrow.Author.Rules.{rules}
-use mathlib.Core.Path.{◌≡◌, refl, sym}
+use mathlib.Core.Path.{◌≡◌, refl}
 use mathlib.Core.List.{[], ◌∷◌}
 use native.Mathlib.Omega.{arith}
 use lib.ListN.{length}
@@ -23,33 +23,3 @@ returns c =
     let b4 = next 21 9 r.edge_outward c.put-4.ensures b3 outward-long (omega arith) in
     let b5 = next 30 3 r.edge_length c.put-5.ensures b4 length-long (omega arith) in
     all (next 33 1 (r.max_edge ∷ []) c.put-6.ensures b5 refl (omega arith))
-
-pub slice_bounds-put-end : goal.slice_bounds-put-end
-slice_bounds-put-end c = sym (nodes-long c)
-
-pub put-requires : goal.put-requires
-put-requires c = omega (arith, nodes-long c)
-
-pub slice_bounds-put-end-3 : goal.slice_bounds-put-end-3
-slice_bounds-put-end-3 c = sym (normal-long c)
-
-pub put-requires-2 : goal.put-requires-2
-put-requires-2 c = omega (arith, normal-long c)
-
-pub slice_bounds-put-end-5 : goal.slice_bounds-put-end-5
-slice_bounds-put-end-5 c = sym (tangent-long c)
-
-pub put-requires-3 : goal.put-requires-3
-put-requires-3 c = omega (arith, tangent-long c)
-
-pub slice_bounds-put-end-7 : goal.slice_bounds-put-end-7
-slice_bounds-put-end-7 c = sym (outward-long c)
-
-pub put-requires-4 : goal.put-requires-4
-put-requires-4 c = omega (arith, outward-long c)
-
-pub slice_bounds-put-end-9 : goal.slice_bounds-put-end-9
-slice_bounds-put-end-9 c = sym (length-long c)
-
-pub put-requires-5 : goal.put-requires-5
-put-requires-5 c = omega (arith, length-long c)

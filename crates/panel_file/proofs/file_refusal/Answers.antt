@@ -44,7 +44,7 @@ returns-then-bytes-length_due c =
 pub some_misses_node-requires : goal.some_misses_node-requires
 some_misses_node-requires c =
     let long : length_differs c.args.extra c.args.bytes.now ≡ false = length_off _ _ _ _ _ c.node_count-n.ensures.value c.panel_count-p.ensures.value c.length_due.ensures c.if-bytes-length_due.false in
-    let whole : Holds c.node_count-n.result c.args.bytes.now = let n = c.node_count-n.ensures in let p = c.panel_count-p.ensures in holds _ _ _ _ n.0 p.0 n.1 p.1 long in
+    let whole : Holds c.node_count-n.result c.args.bytes.now = let n = c.node_count-n.ensures in let p = c.panel_count-p.ensures in holds _ _ _ _ n.value p.value n.upper_bound p.upper_bound long in
     (whole, c.panel_count-p.ensures.value)
 
 pub returns-then-some_misses_node : goal.returns-then-some_misses_node
@@ -60,7 +60,7 @@ returns-then-some_misses_node c =
 pub some_zero_area-requires : goal.some_zero_area-requires
 some_zero_area-requires c =
     let long : length_differs c.args.extra c.args.bytes.now ≡ false = length_off _ _ _ _ _ c.node_count-n.ensures.value c.panel_count-p.ensures.value c.length_due.ensures c.if-bytes-length_due.false in
-    let whole : Holds c.node_count-n.result c.args.bytes.now = let n = c.node_count-n.ensures in let p = c.panel_count-p.ensures in holds _ _ _ _ n.0 p.0 n.1 p.1 long in
+    let whole : Holds c.node_count-n.result c.args.bytes.now = let n = c.node_count-n.ensures in let p = c.panel_count-p.ensures in holds _ _ _ _ n.value p.value n.upper_bound p.upper_bound long in
     let present : some_misses_node (decode c.args.bytes.now) ≡ false = sym c.some_misses_node.ensures ∙ c.if-some_misses_node.false in
     (whole, c.panel_count-p.ensures.value, (missing_off (decode c.args.bytes.now)).0 present)
 

@@ -13,7 +13,7 @@ pub loop-k-preserved : goal.loop-k-preserved
 loop-k-preserved c =
     let l = c.loop-k in
     let s = c.args in
-    let b : get_or s.bytes.now (s.from + (l.k - 1)) 0 < 256 = omega (arith, c.shared_slice_known-1.given (s.from + (l.k - 1))) in (
+    let b : get_or s.bytes.now (s.from + (l.k - 1)) 0 < 256 = omega (arith, c.type_inv.bytes (s.from + (l.k - 1))) in (
       omega arith,
       turn s.width l.k s.from l.n s.bytes.now c.loop-k-test.true l.invariant.0 l.invariant.1,
       turn_bound s.width l.k l.n _ c.loop-k-test.true l.invariant.0 l.invariant.2 b,
@@ -35,11 +35,11 @@ overflow_mul-n c =
 pub overflow_cast-n : goal.overflow_cast-n
 overflow_cast-n c =
     let s = c.args in
-    omega (arith, c.shared_slice_known-1.given (s.from + (c.loop-k.k - 1)))
+    omega (arith, c.type_inv.bytes (s.from + (c.loop-k.k - 1)))
 
 pub overflow_add-n-in-loop-k : goal.overflow_add-n-in-loop-k
 overflow_add-n-in-loop-k c =
     let l = c.loop-k in
     let s = c.args in
     let h : s.width - l.k ≤ 7 = omega arith in
-    omega (arith, room l.n _ l.invariant.2 h, c.shared_slice_known-1.given (s.from + (l.k - 1)))
+    omega (arith, room l.n _ l.invariant.2 h, c.type_inv.bytes (s.from + (l.k - 1)))

@@ -1,18 +1,19 @@
 -- A refusal leaves the columns as they were; a call that goes on has a whole file and columns of its counts, and each is filled.
 use mathlib.Core.Path.{◌≡◌, refl, sym, ◌∙◌}
+use mathlib.Core.List.{List}
 use Prim.Native.Nat.{ℕ}
 use native.Mathlib.Omega.{arith}
 use Rattle.mesh.specs.Mesh.{Mesh, mesh_of}
 use Rattle.refusal.proofs.Checks.{after-done, after-refused}
-use Rattle.panel_file.specs.PanelFile.{node_count, length_differs, lengths_of, Holds}
+use Rattle.panel_file.specs.PanelFile.{node_count, length_differs, lengths_of, Bytes, Holds}
 use Rattle.panel_file.specs.Conditions.{MeshColumnsDue}
 use mathlib.Core.Bool.{false}
 use Rattle.panel_file.proofs.Accepted.{ready, whole, with_count}
 use Rattle.panel_file.proofs.read_panel_file_within.Goals as goal
-use Rattle.panel_file.proofs.read_panel_file_within.Tie as tie
 
-holds : (c : tie.Else-refusal-ne0) (n : ℕ) → n ≡ node_count c.args.bytes.now → Holds n c.args.bytes.now
-holds c n e = with_count n _ e (whole 0 _ (λ k. (c.shared_slice_known-1.given k).fits) (known c).0)
+-- a call that goes on has a whole file
+whole_file : (n : ℕ) (b : List ℕ) → n ≡ node_count b → Bytes b → length_differs 0 b ≡ false → Holds n b
+whole_file n b e h d = with_count n b e (whole 0 b h d)
 
 pub returns-then-refusal-ne0 : goal.returns-then-refusal-ne0
 returns-then-refusal-ne0 c =
@@ -31,37 +32,37 @@ pub fill_coordinates-requires : goal.fill_coordinates-requires
 fill_coordinates-requires c =
     let lent : Mesh = mesh_of c.args.x.now c.args.y.now c.args.z.now c.args.t0.now c.args.t1.now c.args.t2.now in
     let known : (length_differs 0 c.args.bytes.now ≡ false) × MeshColumnsDue c.args.bytes.now (lengths_of lent) = ready _ _ _ (lengths_of lent) (sym c.read_refusal-refusal.ensures ∙ c.if-refusal-ne0.false) in
-    (holds c _ known.1.nodes.first, omega arith)
+    (whole_file _ _ known.1.nodes.first (λ k. (c.type_inv.bytes k).fits) known.0, omega arith)
 
 pub fill_coordinates-requires-2 : goal.fill_coordinates-requires-2
 fill_coordinates-requires-2 c =
     let lent : Mesh = mesh_of c.args.x.now c.args.y.now c.args.z.now c.args.t0.now c.args.t1.now c.args.t2.now in
     let known : (length_differs 0 c.args.bytes.now ≡ false) × MeshColumnsDue c.args.bytes.now (lengths_of lent) = ready _ _ _ (lengths_of lent) (sym c.read_refusal-refusal.ensures ∙ c.if-refusal-ne0.false) in
-    (holds c _ known.1.nodes.second, omega arith)
+    (whole_file _ _ known.1.nodes.second (λ k. (c.type_inv.bytes k).fits) known.0, omega arith)
 
 pub fill_coordinates-requires-3 : goal.fill_coordinates-requires-3
 fill_coordinates-requires-3 c =
     let lent : Mesh = mesh_of c.args.x.now c.args.y.now c.args.z.now c.args.t0.now c.args.t1.now c.args.t2.now in
     let known : (length_differs 0 c.args.bytes.now ≡ false) × MeshColumnsDue c.args.bytes.now (lengths_of lent) = ready _ _ _ (lengths_of lent) (sym c.read_refusal-refusal.ensures ∙ c.if-refusal-ne0.false) in
-    (holds c _ known.1.nodes.third, omega arith)
+    (whole_file _ _ known.1.nodes.third (λ k. (c.type_inv.bytes k).fits) known.0, omega arith)
 
 pub fill_indices-requires : goal.fill_indices-requires
 fill_indices-requires c =
     let lent : Mesh = mesh_of c.args.x.now c.args.y.now c.args.z.now c.args.t0.now c.args.t1.now c.args.t2.now in
     let known : (length_differs 0 c.args.bytes.now ≡ false) × MeshColumnsDue c.args.bytes.now (lengths_of lent) = ready _ _ _ (lengths_of lent) (sym c.read_refusal-refusal.ensures ∙ c.if-refusal-ne0.false) in
-    (holds c _ known.1.nodes.first, omega arith, known.1.panels.first)
+    (whole_file _ _ known.1.nodes.first (λ k. (c.type_inv.bytes k).fits) known.0, omega arith, known.1.panels.first)
 
 pub fill_indices-requires-2 : goal.fill_indices-requires-2
 fill_indices-requires-2 c =
     let lent : Mesh = mesh_of c.args.x.now c.args.y.now c.args.z.now c.args.t0.now c.args.t1.now c.args.t2.now in
     let known : (length_differs 0 c.args.bytes.now ≡ false) × MeshColumnsDue c.args.bytes.now (lengths_of lent) = ready _ _ _ (lengths_of lent) (sym c.read_refusal-refusal.ensures ∙ c.if-refusal-ne0.false) in
-    (holds c _ known.1.nodes.first, omega arith, known.1.panels.second)
+    (whole_file _ _ known.1.nodes.first (λ k. (c.type_inv.bytes k).fits) known.0, omega arith, known.1.panels.second)
 
 pub fill_indices-requires-3 : goal.fill_indices-requires-3
 fill_indices-requires-3 c =
     let lent : Mesh = mesh_of c.args.x.now c.args.y.now c.args.z.now c.args.t0.now c.args.t1.now c.args.t2.now in
     let known : (length_differs 0 c.args.bytes.now ≡ false) × MeshColumnsDue c.args.bytes.now (lengths_of lent) = ready _ _ _ (lengths_of lent) (sym c.read_refusal-refusal.ensures ∙ c.if-refusal-ne0.false) in
-    (holds c _ known.1.nodes.first, omega arith, known.1.panels.third)
+    (whole_file _ _ known.1.nodes.first (λ k. (c.type_inv.bytes k).fits) known.0, omega arith, known.1.panels.third)
 
 pub returns : goal.returns
 returns c =

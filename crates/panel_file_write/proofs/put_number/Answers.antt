@@ -1,6 +1,6 @@
 -- After k turns the first k bytes are in place, the others as held, and rest is what stands above them.
 use mathlib.Core.Path.{refl, sym}
-use Prim.Native.Nat.{◌-◌, ◌<◌}
+use Prim.Native.Nat.{◌<◌}
 use native.Mathlib.Omega.{arith}
 use lib.ListN.{length}
 use Rattle.lists.proofs.Runs.{begun, next_room, one_further}
@@ -34,7 +34,6 @@ shape_of-out c = c.loop-k.invariant.0.long
 
 pub overflow_add-result : goal.overflow_add-result
 overflow_add-result c =
-    let below : let a = c.args in c.loop-k.k < length (to_little_endian a.width a.n) = let a = c.args in omega (arith, c.loop-k-test.true, field-length a.width a.n) in
     let r = c.loop-k.invariant.0 in omega (arith, r.below, r.room)
 
 pub returns : goal.returns

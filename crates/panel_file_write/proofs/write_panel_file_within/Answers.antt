@@ -46,7 +46,7 @@ returns c =
     let lent : Mesh = let a = c.args in mesh_of a.x.now a.y.now a.z.now a.t0.now a.t1.now a.t2.now in
     let output : List ℕ = c.args.out.now in
     let goes_on : write_refusal c.args.nodes c.args.panels lent (length output) ≡ 0 = sym c.write_refusal-refusal.ensures ∙ c.if-refusal-ne0.false in
-    let held : Held lent = record { x = λ i. c.shared_slice_known-1.given i; y = λ i. c.shared_slice_known-2-1.given i; z = λ i. c.shared_slice_known-3-1.given i } in
+    let held : Held lent = record { x = c.type_inv.x; y = c.type_inv.y; z = c.type_inv.z } in
     let h = c.put_header-behind_header in
     let k = c.put_nodes-behind_nodes in
     done _ _ lent output goes_on _ _ h.ensures h.auto.out _ _ k.ensures _ _ c.put_panels.ensures c.requires.0 c.requires.1 held

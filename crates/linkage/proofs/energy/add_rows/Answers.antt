@@ -1,6 +1,6 @@
 -- `out` is the sum of the first i rows.
 use mathlib.Core.Path.{◌≡◌, refl}
-use Prim.Native.Nat.{◌<◌, ◌-◌}
+use Prim.Native.Nat.{◌<◌}
 use native.Mathlib.Omega.{arith}
 use borrow.Author.Rules.{rules}
 use lib.ListN.{length}
@@ -22,7 +22,10 @@ stretch-row-requires c =
 
 pub add_row-out-requires : goal.add_row-out-requires
 add_row-out-requires c =
-    (c.requires.0, omega arith, rw c.stretch-row.ensures (stretch-long _ _ _ (stretch-requires c c.stretch-row.lifetimes)))
+    let a = c.args in
+    let l = c.loop-i in
+    let h : l.i < length a.s.now = omega arith in
+    (c.requires.0, omega arith, rw c.stretch-row.ensures (stretch-long _ _ _ (omega (arith, c.requires.1, row_end (length a.s.now) (length a.s.now) l.i h))))
 
 pub loop-i-preserved : goal.loop-i-preserved
 loop-i-preserved c = (search rules, rw (rows_more, ← c.loop-i.invariant.1, ← c.stretch-row.ensures) c.add_row-out.ensures)
