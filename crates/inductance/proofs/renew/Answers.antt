@@ -58,10 +58,10 @@ returns c =
     loops_done (marked a.marks.now) (nnode m) f m a.out.now s.new.out t.new.out u.new.out (entries-within f m c.requires.none_missing) s.ensures t.ensures u.ensures
 
 pub slice_bounds-link_marked-end : goal.slice_bounds-link_marked-end
-slice_bounds-link_marked-end c = sym c.flag_panels.auto.1.1.1.1.0
+slice_bounds-link_marked-end c = sym c.flag_panels.auto.flags
 
 pub slice_bounds-add_all-end : goal.slice_bounds-add_all-end
-slice_bounds-add_all-end c = sym c.flag_panels.auto.1.1.1.1.0
+slice_bounds-add_all-end c = sym c.flag_panels.auto.flags
 
 pub slice_bounds-add_all-end-2 : goal.slice_bounds-add_all-end-2
-slice_bounds-add_all-end-2 c = sym c.link_marked.auto.1.1.0
+slice_bounds-add_all-end-2 c = sym c.link_marked.auto.links

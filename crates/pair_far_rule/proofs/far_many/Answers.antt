@@ -20,5 +20,5 @@ returns c =
     let a = c.args in
     let d = c.distances.ensures in
     c.far_sums.ensures
-    ∙ far_rows a.count (points_at a.t2 a.t3 a.t4 a.w) (points_at a.t6 a.t7 a.t8 a.pw) _
-    (λ i j h m. unfold Spec.distances in pair_at _ _ a.t6 a.t7 a.t8 a.t2 a.t3 a.t4 a.count i j d h m)
+    ∙ far_rows a.count (points_at a.x a.y a.z a.w) (points_at a.px a.py a.pz a.pw) _
+    (λ i j h m. unfold Spec.distances in pair_at _ _ a.px a.py a.pz a.x a.y a.z a.count i j d h m)

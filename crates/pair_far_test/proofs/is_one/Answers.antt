@@ -7,7 +7,7 @@ use Rattle.pair_far_test.proofs.is_one.Goals as goal
 pub returns-then-first-second : goal.returns-then-first-second
 unfolding triangles_identical
 returns-then-first-second c =
-    rw (clear_corners (corner c.args.t1 0) c.args.t2 (rw (← c.is_clear-first.ensures, ← c.is_clear-second.ensures, ← c.is_clear-third.ensures) c.if-first-second.true))
+    rw (clear_corners (corner c.args.s 0) c.args.t (rw (← c.is_clear-first.ensures, ← c.is_clear-second.ensures, ← c.is_clear-third.ensures) c.if-first-second.true))
 
 pub returns : goal.returns
 returns c = c.triangles_identical.ensures

@@ -14,7 +14,7 @@ returns-then-j-gt2 c = rw (le-ltb _ _ c.if-i-gt2.false, lt-ltb _ _ c.if-j-gt2.tr
 pub returns-in-Known : goal.returns-in-Known
 unfolding Spec.triangle_basis_mutual_inductance Spec.answer_of
 returns-in-Known c =
-    rw (le-ltb _ _ c.if-i-gt2.false, le-ltb _ _ c.if-j-gt2.false, ← c.quadrature_rule.ensures, c.kind-1.given.1, c.mutual_inductance_block-values.ensures)
+    rw (le-ltb _ _ c.if-i-gt2.false, le-ltb _ _ c.if-j-gt2.false, ← c.quadrature_rule.ensures, c.in-Known.is, c.mutual_inductance_block-values.ensures)
 
 pub returns-in-Unknown : goal.returns-in-Unknown
 unfolding Spec.triangle_basis_mutual_inductance Spec.answer_of

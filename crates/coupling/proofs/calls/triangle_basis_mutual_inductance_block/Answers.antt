@@ -5,7 +5,7 @@ use Rattle.coupling.proofs.calls.triangle_basis_mutual_inductance_block.Goals as
 pub returns-in-Known : goal.returns-in-Known
 unfolding Spec.triangle_basis_mutual_inductance_block Spec.block_of
 returns-in-Known c =
-    rw (← c.quadrature_rule.ensures, c.kind-1.given.1, c.mutual_inductance_block.ensures)
+    rw (← c.quadrature_rule.ensures, c.in-Known.is, c.mutual_inductance_block.ensures)
 
 pub returns-in-Unknown : goal.returns-in-Unknown
 unfolding Spec.triangle_basis_mutual_inductance_block Spec.block_of

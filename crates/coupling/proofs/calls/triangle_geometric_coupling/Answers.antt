@@ -5,7 +5,7 @@ use Rattle.coupling.proofs.calls.triangle_geometric_coupling.Goals as goal
 pub returns-in-Known : goal.returns-in-Known
 unfolding Spec.triangle_geometric_coupling Spec.answer_of
 returns-in-Known c =
-    rw (← c.quadrature_rule.ensures, c.kind-1.given.1, c.geometric_coupling.ensures)
+    rw (← c.quadrature_rule.ensures, c.in-Known.is, c.geometric_coupling.ensures)
 
 pub returns-in-Unknown : goal.returns-in-Unknown
 unfolding Spec.triangle_geometric_coupling Spec.answer_of
