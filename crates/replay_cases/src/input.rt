@@ -20,8 +20,6 @@ pub fn mark() {
 // The bytes behind a head that says so many words.
 fn bytes(size: usize) -> [u8; 16384]
     requires { size ≤ 2048 }
- -> [u8; 16384]
-    requires { size ≤ 2048 }
 {
     let mut b = [0u8; 16384];
     io::read_full(0, &mut b[0..size * 8]);

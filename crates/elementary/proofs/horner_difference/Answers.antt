@@ -1,7 +1,6 @@
 -- The coefficients still to come lead from p to Q z, turn by turn.
 use borrow.Author.Rules.{rules}
 use mathlib.Core.Path.{refl}
-use Prim.Native.Nat.{◌-◌}
 use native.Mathlib.Omega.{arith}
 use lib.Ieee.{sub, div, of_int, of_bits, binary64}
 use Rattle.lists.proofs.Indices.{index_fits}

@@ -1,5 +1,4 @@
--- `guided_is` says when the answer is given, `bits_law` that it is then the bits of the rounded sum. e1 and on are the places before the tests, b1 and on those
--- after them.
+-- `guided_is` says when the answer is given, `bits_law` that it is then the bits of the rounded sum.
 use Rattle.std.proofs.Common.{◌≡◌, ◌+◌, ◌-◌, ◌*◌, ◌^◌, ◌<◌, ◌≤◌, Bool, true, ◌&&◌, sym, ap, ◌∙◌, arith}
 use mathlib.Core.Bool.{false≢true}
 use mir.Facts.{Fits-below}

@@ -1,4 +1,4 @@
--- Where z is far above the product, `far_law`; else the integer form. e1 and on are the places before the test.
+-- Where z is far above the product, `far_law`; else the integer form.
 use Rattle.std.proofs.Common.{◌≡◌, ℕ, ◌+◌, ◌^◌, ◌<◌, ◌≤◌, Bool, T, sym, ap, ◌∙◌, subst, arith}
 use mir.Facts.{Fits-below}
 use lib.Ieee.{binary64, fits, unlike, to_bits}

@@ -1,6 +1,5 @@
 -- With a zero as z the product is the answer (`lone_product_lem`). Else t is near the exact sum (`close`), so the residual fits one word; adding the residual, cut with
--- a sticky bit, rounds as the exact sum does (`residual_law`). Without the tests it is `guided`'s. A NaN among the three makes t one. e1 and on are the
--- places before the tests.
+-- a sticky bit, rounds as the exact sum does (`residual_law`). Without the tests it is `guided`'s. A NaN among the three makes t one.
 use Rattle.std.proofs.Common.{◌≡◌, Bool, not, T, sym, ap, ◌∙◌, subst}
 use mir.Facts.{Fits-below}
 use lib.Ieee.{binary64, fits, unlike, add, mul, is_nan}

@@ -1,5 +1,4 @@
--- `mul_add`'s argument with two equal factors and no minus sign: neither the square nor z has one, so t has none (`t_plus`). e1 and on are the places before
--- the tests.
+-- `mul_add`'s argument with two equal factors and no minus sign: neither the square nor z has one, so t has none (`t_plus`).
 use Rattle.std.proofs.Common.{◌≡◌, ◌^◌, Bool, true, false, not, T, sym, refl, ap, ◌∙◌, subst}
 use borrow.Author.Tests.{lt-leb}
 use lib.Ieee.{binary64, fits, unlike, add, mul, is_nan, to_bits}

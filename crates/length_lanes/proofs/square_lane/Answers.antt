@@ -13,4 +13,7 @@ unfolding square_lane dot3
 returns c =
     let a = c.args in
     let inner = c.square_add in
-    let outer = c.square_add-2 in record { value = outer.ensures.value ∙ ap (square_add a.x) inner.ensures.value; square_of = λ h. outer.ensures.value_2 h ∙ ap (fma a.x a.x) (inner.ensures.value_2 (of_number a.x inner.result (sym (ap is_nan outer.ensures.value) ∙ h))) }
+    let outer = c.square_add-2 in record {
+      value = outer.ensures.value ∙ ap (square_add a.x) inner.ensures.value;
+      square_of = λ h. outer.ensures.value_2 h ∙ ap (fma a.x a.x) (inner.ensures.value_2 (of_number a.x inner.result (sym (ap is_nan outer.ensures.value) ∙ h)));
+    }

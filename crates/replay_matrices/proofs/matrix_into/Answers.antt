@@ -14,4 +14,4 @@ pub overflow_add-k : goal.overflow_add-k
 overflow_add-k c = index_fits (omega arith)
 
 pub shape_of-out : goal.shape_of-out
-shape_of-out c = c.triangle_mesh_inductance_matrix-refusal.auto.1.1.1.1.1.1.1.0
+shape_of-out c = c.triangle_mesh_inductance_matrix-refusal.auto.out

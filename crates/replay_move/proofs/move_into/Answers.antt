@@ -7,8 +7,9 @@ use Rattle.replay_move.proofs.move_into.Goals as goal
 pub left_as_due-requires : goal.left_as_due-requires
 left_as_due-requires c =
     let h = c.requires in
-    let k = c.move_node-moved.auto.x in
-    as_long _ _ _ _ _ h.0 h.1 k.0 k.1.0 k.1.1.0 k.1.1.1.1.1.1.0
+    let k = c.move_node-moved.auto in
+    let l = as_long _ _ _ _ _ h.z0_bound h.x_value k.x k.y k.z k.out in
+    record { z_bound = l.0; as_long = l.1 }
 
 pub returns : goal.returns
 returns c =
@@ -25,13 +26,13 @@ pub bounds-place-2 : goal.bounds-place-2
 bounds-place-2 c = le-add_right 3 0
 
 pub shape_of-x : goal.shape_of-x
-shape_of-x c = c.move_node-moved.auto.1.0
+shape_of-x c = c.move_node-moved.auto.x
 
 pub shape_of-y : goal.shape_of-y
-shape_of-y c = c.move_node-moved.auto.1.1.0
+shape_of-y c = c.move_node-moved.auto.y
 
 pub shape_of-z : goal.shape_of-z
-shape_of-z c = c.move_node-moved.auto.1.1.1.0
+shape_of-z c = c.move_node-moved.auto.z
 
 pub shape_of-cells : goal.shape_of-cells
-shape_of-cells c = c.move_node-moved.auto.1.1.1.1.1.1.1.0
+shape_of-cells c = c.move_node-moved.auto.out

@@ -2,10 +2,9 @@
 use Prim.Native.Nat.{◌+◌}
 use lib.ListN.{length, drop}
 use native.Mathlib.Nat.{le-add_right}
-use borrow.Author.Rules.{zero≤}
 use Rattle.replay_words.proofs.Copy.{copy_long}
 use Rattle.replay_columns.proofs.Leaving.{cells_short, column_short}
-use Rattle.replay_move.proofs.Moved.{behind_inside, behind-mesh, results_inside}
+use Rattle.replay_move.proofs.Moved.{behind_inside, behind-mesh, places, results_inside}
 use Rattle.replay_move.proofs.move_of.Goals as goal
 
 pub copied-cs-requires : goal.copied-cs-requires
@@ -27,16 +26,16 @@ pub cut_at-n-requires : goal.cut_at-n-requires
 cut_at-n-requires c = behind_inside _ c.requires.0
 
 pub overflow_add-cells : goal.overflow_add-cells
-overflow_add-cells c = (within c).one
+overflow_add-cells c = (places c.args.g c.cut_at-n.result c.requires.0 c.cut_at-n.ensures.1).one
 
 pub overflow_add-cells-2 : goal.overflow_add-cells-2
-overflow_add-cells-2 c = (within c).one
+overflow_add-cells-2 c = (places c.args.g c.cut_at-n.result c.requires.0 c.cut_at-n.ensures.1).one
 
 pub overflow_add-cells-3 : goal.overflow_add-cells-3
-overflow_add-cells-3 c = (within c).matrix_end
+overflow_add-cells-3 c = (places c.args.g c.cut_at-n.result c.requires.0 c.cut_at-n.ensures.1).matrix_end
 
 pub offset_bounds-all-g : goal.offset_bounds-all-g
-offset_bounds-all-g c = (within c).one-bytes
+offset_bounds-all-g c = (places c.args.g c.cut_at-n.result c.requires.0 c.cut_at-n.ensures.1).one-bytes
 
 pub slice_bounds-cells-count : goal.slice_bounds-cells-count
 slice_bounds-cells-count c = le-add_right _ _
@@ -45,25 +44,25 @@ pub slice_bounds-cells-start : goal.slice_bounds-cells-start
 slice_bounds-cells-start c = le-add_right _ _
 
 pub overflow_add-node : goal.overflow_add-node
-overflow_add-node c = (within c).one
+overflow_add-node c = (places c.args.g c.cut_at-n.result c.requires.0 c.cut_at-n.ensures.1).one
 
 pub overflow_add-node-2 : goal.overflow_add-node-2
-overflow_add-node-2 c = (within c).matrix_end
+overflow_add-node-2 c = (places c.args.g c.cut_at-n.result c.requires.0 c.cut_at-n.ensures.1).matrix_end
 
 pub offset_bounds-w-g : goal.offset_bounds-w-g
-offset_bounds-w-g c = (within c).end_bytes
+offset_bounds-w-g c = (places c.args.g c.cut_at-n.result c.requires.0 c.cut_at-n.ensures.1).end_bytes
 
 pub bounds-w-g : goal.bounds-w-g
-bounds-w-g c = (within c).inside
+bounds-w-g c = (places c.args.g c.cut_at-n.result c.requires.0 c.cut_at-n.ensures.1).inside
 
 pub overflow_add-g : goal.overflow_add-g
-overflow_add-g c = (within c).two
+overflow_add-g c = (places c.args.g c.cut_at-n.result c.requires.0 c.cut_at-n.ensures.1).two
 
 pub overflow_add-g-2 : goal.overflow_add-g-2
-overflow_add-g-2 c = (within c).place
+overflow_add-g-2 c = (places c.args.g c.cut_at-n.result c.requires.0 c.cut_at-n.ensures.1).place
 
 pub vector-place-requires : goal.vector-place-requires
-vector-place-requires c = (within c).vector
+vector-place-requires c = (places c.args.g c.cut_at-n.result c.requires.0 c.cut_at-n.ensures.1).vector
 
 pub copied-xs-requires : goal.copied-xs-requires
 copied-xs-requires c = column_short _ c.requires.1
@@ -74,44 +73,20 @@ copied-ys-requires c = column_short _ c.requires.2
 pub copied-zs-requires : goal.copied-zs-requires
 copied-zs-requires c = column_short _ c.requires.3
 
-pub slice_bounds-move_into-count : goal.slice_bounds-move_into-count
-slice_bounds-move_into-count c = zero≤
-
-pub slice_bounds-xs-start : goal.slice_bounds-xs-start
-slice_bounds-xs-start c = zero≤
-
 pub slice_bounds-xs-end : goal.slice_bounds-xs-end
 slice_bounds-xs-end c = copy_long _ c.copied-xs.result c.copied-xs.ensures
-
-pub slice_bounds-move_into-count-2 : goal.slice_bounds-move_into-count-2
-slice_bounds-move_into-count-2 c = zero≤
-
-pub slice_bounds-ys-start : goal.slice_bounds-ys-start
-slice_bounds-ys-start c = zero≤
 
 pub slice_bounds-ys-end : goal.slice_bounds-ys-end
 slice_bounds-ys-end c = copy_long _ c.copied-ys.result c.copied-ys.ensures
 
-pub slice_bounds-move_into-count-3 : goal.slice_bounds-move_into-count-3
-slice_bounds-move_into-count-3 c = zero≤
-
-pub slice_bounds-zs-start : goal.slice_bounds-zs-start
-slice_bounds-zs-start c = zero≤
-
 pub slice_bounds-zs-end : goal.slice_bounds-zs-end
 slice_bounds-zs-end c = copy_long _ c.copied-zs.result c.copied-zs.ensures
-
-pub slice_bounds-move_into-count-4 : goal.slice_bounds-move_into-count-4
-slice_bounds-move_into-count-4 c = zero≤
-
-pub slice_bounds-cs-start : goal.slice_bounds-cs-start
-slice_bounds-cs-start c = zero≤
 
 pub slice_bounds-cs-end : goal.slice_bounds-cs-end
 slice_bounds-cs-end c = copy_long _ _ c.copied-cs.ensures
 
 pub overflow_add-g-3 : goal.overflow_add-g-3
-overflow_add-g-3 c = (within c).five
+overflow_add-g-3 c = (places c.args.g c.cut_at-n.result c.requires.0 c.cut_at-n.ensures.1).five
 
 pub overflow_add-g-4 : goal.overflow_add-g-4
-overflow_add-g-4 c = (within c).results
+overflow_add-g-4 c = (places c.args.g c.cut_at-n.result c.requires.0 c.cut_at-n.ensures.1).results

@@ -11,8 +11,9 @@ name_at-name-requires c = name_inside _ _ c.requires.q_bound.0 c.part_at-e.ensur
 pub left_as_due-requires : goal.left_as_due-requires
 left_as_due-requires c =
     let h = c.requires in
-    let k = c.return_shape-returned.auto.x in
-    as_long _ _ _ _ _ (results_inside _ _ _ _ _ _ c.part_at-e.ensures.1 h.0.1) h.1 k.0 k.1.0 k.1.1.0 k.1.1.1.1.1.1.0
+    let k = c.return_shape-returned.auto in
+    let l = as_long _ _ _ _ _ (results_inside _ _ _ _ _ _ c.part_at-e.ensures.1 h.q_bound.1) h.x_value k.x k.y k.z k.out in
+    record { z_bound = l.0; as_long = l.1 }
 
 pub returns : goal.returns
 returns c =
@@ -44,13 +45,13 @@ pub overflow_add-e : goal.overflow_add-e
 overflow_add-e c = next_fits _ _ c.requires.q_bound.0 c.part_at-e.ensures.1
 
 pub shape_of-x : goal.shape_of-x
-shape_of-x c = c.return_shape-returned.auto.1.0
+shape_of-x c = c.return_shape-returned.auto.x
 
 pub shape_of-y : goal.shape_of-y
-shape_of-y c = c.return_shape-returned.auto.1.1.0
+shape_of-y c = c.return_shape-returned.auto.y
 
 pub shape_of-z : goal.shape_of-z
-shape_of-z c = c.return_shape-returned.auto.1.1.1.0
+shape_of-z c = c.return_shape-returned.auto.z
 
 pub shape_of-cells : goal.shape_of-cells
-shape_of-cells c = c.return_shape-returned.auto.1.1.1.1.1.1.1.0
+shape_of-cells c = c.return_shape-returned.auto.out

@@ -3,19 +3,17 @@ use lib.ListN.{length, drop}
 use Prim.Native.Nat.{◌+◌}
 use native.Mathlib.Nat.{le-add_right}
 use native.Mathlib.Omega.{arith}
-use borrow.Author.Rules.{zero≤}
 use Rattle.lists.proofs.Indices.{index_fits}
 use Rattle.replay_words.proofs.Copy.{copy_long}
 use Rattle.replay_columns.proofs.Leaving.{cells_short, column_short}
-use Rattle.replay_return.proofs.Returned.{Places, behind-mesh, mesh_inside, places, store_inside}
+use Rattle.replay_return.proofs.Returned.{behind-mesh, mesh_inside, places, store_inside}
 use Rattle.replay_return.proofs.return_of.Goals as goal
 
 pub return_into-requires : goal.return_into-requires
 return_into-requires c =
-    let within : Places c.args.g c.cut_at.result = places _ _ c.requires.0 c.cut_at.ensures.1 in
     let a = c.args in
     let l = store_inside a.g c.cut_at.result (length a.x.now) (length a.y.now) (length a.z.now) (drop (a.g + 1) a.f.now) c.requires c.cut_at.ensures.1 in
-    record { q_bound = (within.store, l); x_value = (c.copied-xs.ensures, c.copied-ys.ensures, c.copied-zs.ensures, c.copied-cs.ensures) }
+    record { q_bound = ((places c.args.g c.cut_at.result c.requires.0 c.cut_at.ensures.1).store, l); x_value = (c.copied-xs.ensures, c.copied-ys.ensures, c.copied-zs.ensures, c.copied-cs.ensures) }
 
 pub returns : goal.returns
 returns c =
@@ -30,13 +28,13 @@ pub cut_at-requires : goal.cut_at-requires
 cut_at-requires c = mesh_inside _ c.requires.0
 
 pub overflow_add-q-2 : goal.overflow_add-q-2
-overflow_add-q-2 c = (within c).matrix_end
+overflow_add-q-2 c = (places c.args.g c.cut_at.result c.requires.0 c.cut_at.ensures.1).matrix_end
 
 pub overflow_add-cells : goal.overflow_add-cells
-overflow_add-cells c = (within c).one
+overflow_add-cells c = (places c.args.g c.cut_at.result c.requires.0 c.cut_at.ensures.1).one
 
 pub offset_bounds-all-g : goal.offset_bounds-all-g
-offset_bounds-all-g c = (within c).one-bytes
+offset_bounds-all-g c = (places c.args.g c.cut_at.result c.requires.0 c.cut_at.ensures.1).one-bytes
 
 pub slice_bounds-cells-count : goal.slice_bounds-cells-count
 slice_bounds-cells-count c = le-add_right _ _
@@ -56,38 +54,14 @@ copied-zs-requires c = column_short _ c.requires.3
 pub copied-cs-requires : goal.copied-cs-requires
 copied-cs-requires c = cells_short _ _ _ _ c.cut_at.ensures.1
 
-pub slice_bounds-return_into-count : goal.slice_bounds-return_into-count
-slice_bounds-return_into-count c = zero≤
-
-pub slice_bounds-xs-start : goal.slice_bounds-xs-start
-slice_bounds-xs-start c = zero≤
-
 pub slice_bounds-xs-end : goal.slice_bounds-xs-end
 slice_bounds-xs-end c = copy_long _ c.copied-xs.result c.copied-xs.ensures
-
-pub slice_bounds-return_into-count-2 : goal.slice_bounds-return_into-count-2
-slice_bounds-return_into-count-2 c = zero≤
-
-pub slice_bounds-ys-start : goal.slice_bounds-ys-start
-slice_bounds-ys-start c = zero≤
 
 pub slice_bounds-ys-end : goal.slice_bounds-ys-end
 slice_bounds-ys-end c = copy_long _ c.copied-ys.result c.copied-ys.ensures
 
-pub slice_bounds-return_into-count-3 : goal.slice_bounds-return_into-count-3
-slice_bounds-return_into-count-3 c = zero≤
-
-pub slice_bounds-zs-start : goal.slice_bounds-zs-start
-slice_bounds-zs-start c = zero≤
-
 pub slice_bounds-zs-end : goal.slice_bounds-zs-end
 slice_bounds-zs-end c = copy_long _ c.copied-zs.result c.copied-zs.ensures
-
-pub slice_bounds-return_into-count-4 : goal.slice_bounds-return_into-count-4
-slice_bounds-return_into-count-4 c = zero≤
-
-pub slice_bounds-cs-start : goal.slice_bounds-cs-start
-slice_bounds-cs-start c = zero≤
 
 pub slice_bounds-cs-end : goal.slice_bounds-cs-end
 slice_bounds-cs-end c = copy_long _ _ c.copied-cs.ensures

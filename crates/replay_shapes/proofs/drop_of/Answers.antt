@@ -1,7 +1,6 @@
 -- The copy is the marks of the case's store.
 use mathlib.Core.Path.{◌∙◌}
 use native.Mathlib.Nat.{le-add_right}
-use borrow.Author.Rules.{zero≤}
 use Rattle.replay_words.proofs.Copy.{copy_long}
 use Rattle.replay_shapes.proofs.Compared.{name_inside, store_inside, store_of_parts}
 use Rattle.replay_shapes.proofs.drop_of.Goals as goal
@@ -36,12 +35,6 @@ part_at-e-requires c = (store_inside _ c.requires, le-add_right 5 0)
 
 pub copied_bytes-m-requires : goal.copied_bytes-m-requires
 copied_bytes-m-requires c = c.bytes_part-marks.ensures.1
-
-pub slice_bounds-drop_into-count : goal.slice_bounds-drop_into-count
-slice_bounds-drop_into-count c = zero≤
-
-pub slice_bounds-m-start : goal.slice_bounds-m-start
-slice_bounds-m-start c = zero≤
 
 pub slice_bounds-m-end : goal.slice_bounds-m-end
 slice_bounds-m-end c = copy_long _ c.copied_bytes-m.result c.copied_bytes-m.ensures

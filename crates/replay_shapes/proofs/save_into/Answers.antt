@@ -5,8 +5,8 @@ use Rattle.replay_shapes.proofs.save_into.Goals as goal
 pub saved_as_due-requires : goal.saved_as_due-requires
 saved_as_due-requires c =
     let h = c.requires in
-    let k = c.save_shape-refusal.auto.sx in
-    record { k_bound = (next_inside _ h.0.0, h.0.1); as_long = as_long _ _ _ h.1 k.0 k.1.0 k.1.1.0 }
+    let k = c.save_shape-refusal.auto in
+    record { k_bound = (next_inside _ h.e_bound.0, h.e_bound.1); as_long = as_long _ _ _ h.sz_value k.sx k.sy k.sz }
 
 pub returns : goal.returns
 returns c =
@@ -17,16 +17,16 @@ pub overflow_add-e : goal.overflow_add-e
 overflow_add-e c = next_fits _ c.requires.e_bound.0
 
 pub shape_of-marks : goal.shape_of-marks
-shape_of-marks c = c.save_shape-refusal.auto.1.1.1.1.1.1.0
+shape_of-marks c = c.save_shape-refusal.auto.marks
 
 pub shape_of-names : goal.shape_of-names
-shape_of-names c = c.save_shape-refusal.auto.1.1.1.1.1.1.1.0
+shape_of-names c = c.save_shape-refusal.auto.names
 
 pub shape_of-sx : goal.shape_of-sx
-shape_of-sx c = c.save_shape-refusal.auto.1.1.1.1.1.1.1.1.0
+shape_of-sx c = c.save_shape-refusal.auto.sx
 
 pub shape_of-sy : goal.shape_of-sy
-shape_of-sy c = c.save_shape-refusal.auto.1.1.1.1.1.1.1.1.1.0
+shape_of-sy c = c.save_shape-refusal.auto.sy
 
 pub shape_of-sz : goal.shape_of-sz
-shape_of-sz c = c.save_shape-refusal.auto.1.1.1.1.1.1.1.1.1.1.0
+shape_of-sz c = c.save_shape-refusal.auto.sz

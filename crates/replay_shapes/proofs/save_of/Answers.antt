@@ -1,7 +1,6 @@
 -- The copies are the parts of the case's store.
 use mathlib.Core.Path.{◌∙◌}
 use native.Mathlib.Nat.{le-add_right}
-use borrow.Author.Rules.{zero≤}
 use Rattle.replay_words.proofs.Copy.{copy_long}
 use Rattle.replay_shapes.proofs.Compared.{name_inside, part_short, store_inside, store_of_parts, stores_alike}
 use Rattle.replay_shapes.proofs.save_of.Goals as goal
@@ -50,47 +49,17 @@ copied-j-requires c = part_short _ c.numbers_part-sy.ensures.1
 pub copied-k-requires : goal.copied-k-requires
 copied-k-requires c = part_short _ c.numbers_part-sz.ensures.1
 
-pub slice_bounds-save_into-count : goal.slice_bounds-save_into-count
-slice_bounds-save_into-count c = zero≤
-
-pub slice_bounds-m-start : goal.slice_bounds-m-start
-slice_bounds-m-start c = zero≤
-
 pub slice_bounds-m-end : goal.slice_bounds-m-end
 slice_bounds-m-end c = copy_long _ c.copied_bytes-m.result c.copied_bytes-m.ensures
-
-pub slice_bounds-save_into-count-2 : goal.slice_bounds-save_into-count-2
-slice_bounds-save_into-count-2 c = zero≤
-
-pub slice_bounds-n-start : goal.slice_bounds-n-start
-slice_bounds-n-start c = zero≤
 
 pub slice_bounds-n-end : goal.slice_bounds-n-end
 slice_bounds-n-end c = copy_long _ c.copied_bytes-n.result c.copied_bytes-n.ensures
 
-pub slice_bounds-save_into-count-3 : goal.slice_bounds-save_into-count-3
-slice_bounds-save_into-count-3 c = zero≤
-
-pub slice_bounds-i-start : goal.slice_bounds-i-start
-slice_bounds-i-start c = zero≤
-
 pub slice_bounds-i-end : goal.slice_bounds-i-end
 slice_bounds-i-end c = copy_long _ c.copied-i.result c.copied-i.ensures
 
-pub slice_bounds-save_into-count-4 : goal.slice_bounds-save_into-count-4
-slice_bounds-save_into-count-4 c = zero≤
-
-pub slice_bounds-j-start : goal.slice_bounds-j-start
-slice_bounds-j-start c = zero≤
-
 pub slice_bounds-j-end : goal.slice_bounds-j-end
 slice_bounds-j-end c = copy_long _ c.copied-j.result c.copied-j.ensures
-
-pub slice_bounds-save_into-count-5 : goal.slice_bounds-save_into-count-5
-slice_bounds-save_into-count-5 c = zero≤
-
-pub slice_bounds-k-start : goal.slice_bounds-k-start
-slice_bounds-k-start c = zero≤
 
 pub slice_bounds-k-end : goal.slice_bounds-k-end
 slice_bounds-k-end c = copy_long _ c.copied-k.result c.copied-k.ensures

@@ -7,7 +7,7 @@ use Rattle.replay_shapes.proofs.saved_as_due.Goals as goal
 pub kept_columns-columns-requires : goal.kept_columns-columns-requires
 kept_columns-columns-requires c =
     let h = c.requires in
-    record { z_bound = columns_inside _ _ _ _ _ _ _ _ h.0.0 h.0.1 h.1 c.part_at-p.ensures.1; x_len = h.1 }
+    record { z_bound = columns_inside _ _ _ _ _ _ _ _ h.k_bound.0 h.k_bound.1 h.as_long c.part_at-p.ensures.1; x_len = h.as_long }
 
 pub returns : goal.returns
 unfolding saved_as_due

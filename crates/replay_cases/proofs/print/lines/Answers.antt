@@ -10,7 +10,7 @@ loop-k-init c = (search rules, refl)
 
 pub loop-k-preserved : goal.loop-k-preserved
 loop-k-preserved c =
-    (search rules, rw (total_more, ← c.loop-k.invariant.1, ← c.line-d.ensures) c.wrapping_add_u64-sum.ensures)
+    (search rules, rw (total_more, ← c.loop-k.invariant.1, ← c.line-d.ensures) c.wrapping_add_u64-sum.ensures.value)
 
 pub returns : goal.returns
 returns c =

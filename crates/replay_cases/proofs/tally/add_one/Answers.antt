@@ -2,4 +2,4 @@
 use Rattle.replay_cases.proofs.tally.add_one.Goals as goal
 
 pub returns : goal.returns
-returns c = rw c.wrapping_add_u64.ensures
+returns c = rw c.wrapping_add_u64.ensures.value

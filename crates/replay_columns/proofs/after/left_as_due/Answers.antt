@@ -21,4 +21,4 @@ pub kept-b-requires : goal.kept-b-requires
 kept-b-requires c = (omega arith, omega arith)
 
 pub kept_columns-c-requires : goal.kept_columns-c-requires
-kept_columns-c-requires c = (omega arith, (omega arith, omega arith, omega arith))
+kept_columns-c-requires c = record { z_bound = omega arith; x_len = (omega arith, omega arith, omega arith) }

@@ -1,7 +1,13 @@
 -- Eight reads.
 use native.Mathlib.Omega.{arith}
+use borrow.Author.Rules.{rules}
 use Rattle.lists.proofs.Indices.{index_fits}
+use Rattle.replay_columns.specs.Store.{name_at}
 use Rattle.replay_columns.proofs.store.name_at.Goals as goal
+
+pub returns : goal.returns
+unfolding name_at
+returns c = search rules
 
 pub overflow_mul-j : goal.overflow_mul-j
 overflow_mul-j c = index_fits (omega arith)

@@ -23,10 +23,10 @@ pub overflow_add-k : goal.overflow_add-k
 overflow_add-k c = index_fits (omega arith)
 
 pub shape_of-jx : goal.shape_of-jx
-shape_of-jx c = c.triangle_mesh_current_density-refusal.auto.1.1.1.1.1.1.1.0
+shape_of-jx c = c.triangle_mesh_current_density-refusal.auto.jx
 
 pub shape_of-jy : goal.shape_of-jy
-shape_of-jy c = c.triangle_mesh_current_density-refusal.auto.1.1.1.1.1.1.1.1.0
+shape_of-jy c = c.triangle_mesh_current_density-refusal.auto.jy
 
 pub shape_of-jz : goal.shape_of-jz
-shape_of-jz c = c.triangle_mesh_current_density-refusal.auto.1.1.1.1.1.1.1.1.1.0
+shape_of-jz c = c.triangle_mesh_current_density-refusal.auto.jz

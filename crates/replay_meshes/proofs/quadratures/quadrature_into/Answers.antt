@@ -40,13 +40,13 @@ pub overflow_add-k : goal.overflow_add-k
 overflow_add-k c = index_fits (omega arith)
 
 pub shape_of-px : goal.shape_of-px
-shape_of-px c = c.triangle_mesh_quadrature_points-refusal.auto.1.1.1.1.1.1.1.0
+shape_of-px c = c.triangle_mesh_quadrature_points-refusal.auto.px
 
 pub shape_of-py : goal.shape_of-py
-shape_of-py c = c.triangle_mesh_quadrature_points-refusal.auto.1.1.1.1.1.1.1.1.0
+shape_of-py c = c.triangle_mesh_quadrature_points-refusal.auto.py
 
 pub shape_of-pz : goal.shape_of-pz
-shape_of-pz c = c.triangle_mesh_quadrature_points-refusal.auto.1.1.1.1.1.1.1.1.1.0
+shape_of-pz c = c.triangle_mesh_quadrature_points-refusal.auto.pz
 
 pub shape_of-pw : goal.shape_of-pw
-shape_of-pw c = c.triangle_mesh_quadrature_points-refusal.auto.1.1.1.1.1.1.1.1.1.1.0
+shape_of-pw c = c.triangle_mesh_quadrature_points-refusal.auto.pw

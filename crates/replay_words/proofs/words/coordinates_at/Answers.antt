@@ -1,7 +1,13 @@
 -- Nine reads.
 use native.Mathlib.Omega.{arith}
+use Rattle.std.proofs.Common.{rules, refl}
 use Rattle.lists.proofs.Indices.{index_fits}
+use Rattle.replay_words.specs.Words.{coordinates_at}
 use Rattle.replay_words.proofs.words.coordinates_at.Goals as goal
+
+pub returns : goal.returns
+unfolding coordinates_at
+returns c = search rules
 
 pub offset_bounds-f-k : goal.offset_bounds-f-k
 offset_bounds-f-k c = index_fits (omega arith)
