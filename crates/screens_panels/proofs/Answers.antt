@@ -1,5 +1,4 @@
 -- An answer handed out as its number and what is lent: of an equal answer it is the same, a block's own refusal stops the call.
-use Prim.Native.Nat.{ℕ}
 use mathlib.Core.Path.{◌≡◌, refl, sym, ap, subst}
 use mathlib.Core.List.{List}
 use lib.Ieee.{Float}

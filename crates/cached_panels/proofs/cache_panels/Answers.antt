@@ -20,7 +20,7 @@ pub triangle_nodes-requires : goal.triangle_nodes-requires
 triangle_nodes-requires c =
     let p = c.requires in
     let h = c.loop-j-test.true in
-    record { node_columns_alike = p.0; panel_columns_alike = p.1.0; i_in_bounds = (h, p.1.1.0 c.loop-j.j h) }
+    record { node_columns_alike = p.node_columns_alike; panel_columns_alike = p.panel_columns_alike; i_in_bounds = (h, p.none_missing c.loop-j.j h) }
 
 pub store-requires : goal.store-requires
 store-requires c =

@@ -31,7 +31,7 @@ add_sources-requires c =
     let w = c.requires in
     let k = c.cache_panels in
     let fit : length k.new.cache ≡ cache_length = k.auto.cache ∙ search rules in
-    record { ready = w.0; scanned = w.1; all_cached = record { long = room _ _ w.0.few_panels fit; holds = k.ensures } }
+    record { ready = w.ready; scanned = w.scanned; all_cached = record { long = room _ _ w.ready.few_panels fit; holds = k.ensures } }
 
 pub returns-then-next_named-t0 : goal.returns-then-next_named-t0
 returns-then-next_named-t0 c = c.add_sources.ensures

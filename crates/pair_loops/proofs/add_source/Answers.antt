@@ -15,8 +15,8 @@ use Rattle.pair_loops.proofs.add_source.Goals as goal
 pub next_named-j-requires : goal.next_named-j-requires
 next_named-j-requires c =
     let w = c.requires in
-    let s = w.1.0 in
-    record { n_in_bounds = (s.flags_long, s.links_long); row_lt_n = ((λ l. omega (arith, l, w.1.1.1)), s.linked) }
+    let s = w.scanned in
+    record { n_in_bounds = (s.flags_long, s.links_long); row_lt_n = ((λ l. omega (arith, l, w.i_le_first)), s.linked) }
 
 pub cached_panel-panel-requires : goal.cached_panel-panel-requires
 cached_panel-panel-requires c =
@@ -32,8 +32,8 @@ add_targets-requires c =
     let a = c.args in
     let p = c.requires in
     let low : a.i ≤ c.next_named-j.result =
-    omega (arith, p.1.1.1, c.next_named-j.ensures, (next_bounds (named (marked a.flags.now) a.i) a.first (length a.t0.now - a.first)).0) in
-    record { ready = p.0; scanned = p.1.0; all_cached = p.1.1.0; i_le_first = low; source_value = c.source_numbers-source.ensures ∙ ap (λ (x : Panel). source_numbers a.kind x) c.cached_panel-panel.ensures }
+    omega (arith, p.i_le_first, c.next_named-j.ensures, (next_bounds (named (marked a.flags.now) a.i) a.first (length a.t0.now - a.first)).0) in
+    record { ready = p.ready; scanned = p.scanned; all_cached = p.all_cached; i_le_first = low; source_value = c.source_numbers-source.ensures ∙ ap (λ (x : Panel). source_numbers a.kind x) c.cached_panel-panel.ensures }
 
 pub returns-then-j-t0 : goal.returns-then-j-t0
 returns-then-j-t0 c =

@@ -23,7 +23,7 @@ add_pair-requires c =
     let l = c.loop-j in
     let h = c.loop-j-test.true in
     let k : a.i < length a.t0.now = omega (arith, h, l.invariant.0) in
-    record { ready = ready_now (mesh_of a.x.now a.y.now a.z.now a.t0.now a.t1.now a.t2.now) a.out.now l.out a.marks.now p.0 l.invariant.1; all_cached = p.1.1.0; i_in_bounds = (k, h); source_value = p.1.1.1.1 }
+    record { ready = ready_now (mesh_of a.x.now a.y.now a.z.now a.t0.now a.t1.now a.t2.now) a.out.now l.out a.marks.now p.ready l.invariant.1; all_cached = p.all_cached; i_in_bounds = (k, h); source_value = p.source_value }
 
 pub next_named-j-requires : goal.next_named-j-requires
 next_named-j-requires c =

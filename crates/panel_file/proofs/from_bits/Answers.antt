@@ -1,6 +1,6 @@
 -- A pattern above an infinity's is a NaN's, and every NaN is one number; any other is its pattern's number.
 use mathlib.Core.Path.{◌≡◌, refl, sym, ◌∙◌, subst}
-use mathlib.Core.Bool.{Bool, true, false, not, true≢false}
+use mathlib.Core.Bool.{Bool, true, not, true≢false}
 use Prim.Native.Nat.{◌%◌, ◌^◌}
 use lib.Arith.{le→nltb}
 use lib.Dec.{T}

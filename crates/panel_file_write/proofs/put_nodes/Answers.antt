@@ -1,7 +1,7 @@
 -- After k turns the rows of the first k nodes are in place; a node's row is its three coordinates' bits.
 use mathlib.Core.Path.{◌≡◌, subst}
 use mathlib.Core.List.{List}
-use Prim.Native.Nat.{ℕ, ◌-◌}
+use Prim.Native.Nat.{ℕ}
 use native.Mathlib.Omega.{arith}
 use Rattle.lists.specs.Putting.{Put}
 use Rattle.panel_file.specs.LittleEndian.{three_fields}

@@ -1,6 +1,6 @@
 -- After k turns the first k bytes are in place, the others as held, and rest is what stands above them.
 use mathlib.Core.Path.{refl, sym}
-use Prim.Native.Nat.{◌-◌, ◌<◌}
+use Prim.Native.Nat.{◌<◌}
 use native.Mathlib.Omega.{arith}
 use lib.ListN.{length}
 use Rattle.lists.proofs.Runs.{begun, next_room, one_further}

@@ -1,5 +1,4 @@
 -- After i turns the rows of the first i panels are in place; a panel's row is its three indices.
-use Prim.Native.Nat.{◌-◌}
 use native.Mathlib.Omega.{arith}
 use Rattle.panel_file.specs.PanelFile.{encode_panel}
 use Rattle.panel_file.proofs.RoundTrip.{panel_length}

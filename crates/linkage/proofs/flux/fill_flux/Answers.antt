@@ -1,10 +1,9 @@
 -- The output is filled from the front, one row's flux a turn.
 use mathlib.Core.Path.{refl}
-use Prim.Native.Nat.{◌<◌, ◌-◌}
+use Prim.Native.Nat.{◌<◌}
 use native.Mathlib.Omega.{arith}
 use lib.ListN.{length}
 use Rattle.lists.proofs.Runs.{begun, front_further, filled_whole}
-use Rattle.linkage.specs.Flux.{row_flux}
 use Rattle.lists.proofs.Stretches.{row_end}
 use Rattle.linkage.proofs.flux.fill_flux.Goals as goal
 
