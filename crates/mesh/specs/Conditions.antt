@@ -2,7 +2,7 @@
 use Rattle.std.specs.Prelude.{◌≡◌, ◌↔◌, ◌⊎◌, true, false, ℕ, ◌<◌, ◌≤◌, length, get_or}
 use Rattle.std.specs.Float.Ieee.{lt}
 use Rattle.tri.specs.Mapping.{area}
-use Rattle.mesh.specs.Mesh.{Mesh, nnode, ntri, triangle_nodes, smallest_area, mesh_refusal, poor_panels, tested_count, max_nodes, max_panels}
+use Rattle.mesh.specs.Mesh.{Mesh, nnode, ntri, triangle_nodes, smallest_area, mesh_refusal, tested_count, max_nodes, max_panels}
 
 -- not 1
 pub record NodeColumnsAlike (m : Mesh) : Type 0 where

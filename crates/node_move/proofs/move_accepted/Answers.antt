@@ -93,10 +93,10 @@ returns c =
     move_done (cell (mutual_inductance_block a.kind)) m a.v a.px a.py a.pz a.out.now _ q.new.marks _ t.result c.named_cells.result 4096 q.ensures (length-set a.x.now a.v a.px) n.ensures t.ensures c.named_cells.ensures
 
 pub slice_bounds-count_marks-end : goal.slice_bounds-count_marks-end
-slice_bounds-count_marks-end c = sym c.mark_ring.auto.0
+slice_bounds-count_marks-end c = sym c.mark_ring.auto.marks
 
 pub slice_bounds-renew-end : goal.slice_bounds-renew-end
-slice_bounds-renew-end c = sym c.mark_ring.auto.0
+slice_bounds-renew-end c = sym c.mark_ring.auto.marks
 
 pub shape_of-out : goal.shape_of-out
-shape_of-out c = c.renew.auto.1.1.1.1.1.1.1.1.0
+shape_of-out c = c.renew.auto.out

@@ -29,13 +29,13 @@ returns c =
     claim_done Unit (cell f) (matrix f) _ m a.out.now a.v a.px a.py a.pz (due-under m a.out.now a.v a.px a.py a.pz) (matrix-long f m) _ _ _ (cell-turned f (moved m a.v a.px a.py a.pz)) (move_fresh f m a.v a.px a.py a.pz) (sym c.if-refusal-ne0.false ∙ c.place_refusal-refusal.ensures) c.move_accepted-count.ensures
 
 pub shape_of-x : goal.shape_of-x
-shape_of-x c = c.move_accepted-count.auto.1.0
+shape_of-x c = c.move_accepted-count.auto.x
 
 pub shape_of-y : goal.shape_of-y
-shape_of-y c = c.move_accepted-count.auto.1.1.0
+shape_of-y c = c.move_accepted-count.auto.y
 
 pub shape_of-z : goal.shape_of-z
-shape_of-z c = c.move_accepted-count.auto.1.1.1.0
+shape_of-z c = c.move_accepted-count.auto.z
 
 pub shape_of-out : goal.shape_of-out
-shape_of-out c = c.move_accepted-count.auto.1.1.1.1.1.1.1.0
+shape_of-out c = c.move_accepted-count.auto.out

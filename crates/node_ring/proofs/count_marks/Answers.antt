@@ -1,6 +1,6 @@
 -- `t` counts the marks below `i`.
 use mathlib.Core.Path.{◌≡◌, refl, sym, ap, ◌∙◌}
-use Prim.Native.Nat.{ℕ, ◌-◌, ◌+◌}
+use Prim.Native.Nat.{ℕ, ◌+◌}
 use native.Mathlib.Omega.{arith}
 use Rattle.lists.specs.Counting.{count_below}
 use Rattle.lists.proofs.Counting.{count_on, count_off, count_bound}

@@ -1,5 +1,4 @@
 -- The rows above `row` are cleared; `clear_turn` says this of a row more.
-use Prim.Native.Nat.{◌-◌}
 use Rattle.scatter.proofs.Rows.{rows_begun, row_ready, rows_done, clear_turn}
 use borrow.Author.Rules.{rules}
 use Rattle.scatter.proofs.clear_named.Goals as goal

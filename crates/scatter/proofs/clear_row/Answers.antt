@@ -1,6 +1,5 @@
 -- `row_next` says where the scan of the row stands after each step to the next named column.
 use mathlib.Core.Path.{refl}
-use Prim.Native.Nat.{◌-◌}
 use native.Mathlib.Omega.{arith}
 use Rattle.lists.proofs.First.{next_above}
 use Rattle.scatter.proofs.Steps.{in_square}

@@ -1,5 +1,4 @@
 -- The rows above `row` have their copies; `copy_turn` says this of a row more.
-use Prim.Native.Nat.{◌-◌}
 use Rattle.scatter.proofs.Rows.{rows_begun, row_ready, rows_done, copy_turn}
 use borrow.Author.Rules.{rules}
 use Rattle.scatter.proofs.copy_below.Goals as goal

@@ -1,6 +1,5 @@
 -- `row_next` says where the scan of the row stands after each step to the next named column; `copy_due`, that the cell copied is as it was; `copied_kept`, that the row is done at the diagonal.
 use mathlib.Core.Path.{refl}
-use Prim.Native.Nat.{◌-◌}
 use native.Mathlib.Nat.{lt_trans}
 use native.Mathlib.Omega.{arith}
 use Rattle.scatter.specs.Renewal.{marked}

@@ -1,6 +1,5 @@
 -- The scan from above: at k and above every link is right, and `first` is the link of k.
 use mathlib.Core.Path.{◌≡◌, refl}
-use Prim.Native.Nat.{◌-◌}
 use native.Mathlib.Omega.{arith}
 use lib.ListN.{length-set}
 use Rattle.scatter.specs.Renewal.{marked}

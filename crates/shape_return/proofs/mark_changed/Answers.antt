@@ -18,13 +18,13 @@ pub node_differs-requires : goal.node_differs-requires
 node_differs-requires c =
     let w = c.requires in
     let t = c.loop-a-test.true in
-    let e = w.1.1.0 in
-    record { a_in_bounds = (t, omega (arith, w.0.ys_long), omega (arith, w.0.zs_long)); a_in_bounds_2 = (omega (arith, e), omega (arith, e, w.1.0.ys_long), omega (arith, e, w.1.0.zs_long)) }
+    let e = w.px_len.0 in
+    record { a_in_bounds = (t, omega (arith, w.node_columns_alike.ys_long), omega (arith, w.node_columns_alike.zs_long)); a_in_bounds_2 = (omega (arith, e), omega (arith, e, w.node_columns_alike_2.ys_long), omega (arith, e, w.node_columns_alike_2.zs_long)) }
 
 pub bounds-changed-a : goal.bounds-changed-a
 bounds-changed-a c =
     let w = c.requires in
-    omega (arith, c.loop-a-test.true, w.1.1.1, c.loop-a.invariant.1)
+    omega (arith, c.loop-a-test.true, w.px_len.1, c.loop-a.invariant.1)
 
 pub loop-a-preserved : goal.loop-a-preserved
 loop-a-preserved c =
@@ -36,7 +36,7 @@ loop-a-preserved c =
       length-set l.changed l.a v ∙ l.invariant.1,
       one_more (λ (k : ℕ). marked (set l.changed l.a v) k ≡ d k) l.a
           (λ k b. get_or-set_other l.changed l.a k v false (λ q. absurd (omega (arith, b, q))) ∙ l.invariant.2 k b)
-          (get_or-set_same l.changed l.a v false (slice-write-changed c) ∙ c.node_differs.ensures),
+          (get_or-set_same l.changed l.a v false (omega (arith, c.loop-a-test.true, c.requires.px_len.1, c.loop-a.invariant.1)) ∙ c.node_differs.ensures),
     )
 
 pub shape_of-changed : goal.shape_of-changed

@@ -39,7 +39,7 @@ pub renew-requires : goal.renew-requires
 renew-requires c =
     let mesh : Mesh = let a = c.args in mesh_of a.x.now a.y.now a.z.now a.t0.now a.t1.now a.t2.now in
     let shape : Mesh = let a = c.args in mesh_of a.px.now a.py.now a.pz.now a.t0.now a.t1.now a.t2.now in
-    let withPanels : Mesh = λ n. let a = c.args in mesh_of n.xs n.ys n.zs a.t0.now a.t1.now a.t2.now in
+    let withPanels : Mesh → Mesh = λ n. let a = c.args in mesh_of n.xs n.ys n.zs a.t0.now a.t1.now a.t2.now in
     let w = c.requires.shape_of in
     let q = c.mark_changed_rings in
     let e = ap withPanels c.set_nodes.ensures in
@@ -67,7 +67,7 @@ pub returns : goal.returns
 returns c =
     let mesh : Mesh = let a = c.args in mesh_of a.x.now a.y.now a.z.now a.t0.now a.t1.now a.t2.now in
     let shape : Mesh = let a = c.args in mesh_of a.px.now a.py.now a.pz.now a.t0.now a.t1.now a.t2.now in
-    let withPanels : Mesh = λ n. let a = c.args in mesh_of n.xs n.ys n.zs a.t0.now a.t1.now a.t2.now in
+    let withPanels : Mesh → Mesh = λ n. let a = c.args in mesh_of n.xs n.ys n.zs a.t0.now a.t1.now a.t2.now in
     let a = c.args in
     let q = c.mark_changed_rings in
     let k = c.count_marks-r in

@@ -21,7 +21,7 @@ pub returns-in-Known : goal.returns-in-Known
 returns-in-Known c =
     let lent : Mesh = let a = c.args in mesh_of a.x.now a.y.now a.z.now a.t0.now a.t1.now a.t2.now in
     let store : Store = let a = c.args in store_of a.marks.now a.names.now a.sx.now a.sy.now a.sz.now in
-    let e = sym c.quadrature_rule.ensures ∙ c.kind-1.given.1 in
+    let e = sym c.quadrature_rule.ensures ∙ c.in-Known.is in
     claim_known c.args.rule lent store c.args.name.now c.args.out.now _ _ _ _ _ e c.return_under.ensures
 
 pub returns-in-Unknown : goal.returns-in-Unknown
@@ -29,7 +29,3 @@ returns-in-Unknown c =
     let lent : Mesh = let a = c.args in mesh_of a.x.now a.y.now a.z.now a.t0.now a.t1.now a.t2.now in
     let store : Store = let a = c.args in store_of a.marks.now a.names.now a.sx.now a.sy.now a.sz.now in
     claim_unknown c.args.rule lent store c.args.name.now c.args.out.now (sym c.quadrature_rule.ensures ∙ c.in-Unknown.is)
-
-pub enum_known-kind : goal.enum_known-kind
-enum_known-kind c = c.in-Known.is
-

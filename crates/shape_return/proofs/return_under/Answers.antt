@@ -16,11 +16,6 @@ use Rattle.shape_return.proofs.Laws.{Coordinates, shape_numbers, return_changes,
 use Rattle.shape_return.proofs.Numbers.{place-room, shape-long, shape-done}
 use Rattle.shape_return.proofs.Refused.{done_as, due-under, claim_refused, claim_done}
 use Rattle.shape_return.proofs.return_under.Goals as goal
-use Rattle.shape_return.proofs.return_under.Tie as tie
-
--- the stretch of a column
-room : (c : tie.After-find_name-p) (size : ℕ) → size ≡ places * nnode (lent c) → c.find_name-p.result * nnode (lent c) + nnode (lent c) ≤ size
-room c size e = rw c.find_name-p.ensures (place-room _ _ size e (within c))
 
 pub returns-then-refusal-ne0 : goal.returns-then-refusal-ne0
 returns-then-refusal-ne0 c =
@@ -44,7 +39,8 @@ stretch-px-requires c =
     let store : Store = let a = c.args in store_of a.marks.now a.names.now a.sx.now a.sy.now a.sz.now in
     let shape : Mesh = named_shape lent store c.args.name.now in
     let done : Accepted max_nodes max_panels lent × Sized lent store (length c.args.out.now) × KnownName store c.args.name.now × Accepted max_nodes max_panels shape = (shape-done lent store c.args.name.now _).0 (sym c.return_refusal-refusal.ensures ∙ c.if-refusal-ne0.false) in
-    room c _ done.1.store.columns.first
+    let within : place_of store c.args.name.now < places = place-within store c.args.name.now ((name_known store c.args.name.now).1 done.2) in
+    rw c.find_name-p.ensures (place-room _ _ _ done.1.store.columns.first within)
 
 pub stretch-py-requires : goal.stretch-py-requires
 stretch-py-requires c =
@@ -52,7 +48,8 @@ stretch-py-requires c =
     let store : Store = let a = c.args in store_of a.marks.now a.names.now a.sx.now a.sy.now a.sz.now in
     let shape : Mesh = named_shape lent store c.args.name.now in
     let done : Accepted max_nodes max_panels lent × Sized lent store (length c.args.out.now) × KnownName store c.args.name.now × Accepted max_nodes max_panels shape = (shape-done lent store c.args.name.now _).0 (sym c.return_refusal-refusal.ensures ∙ c.if-refusal-ne0.false) in
-    room c _ done.1.store.columns.second
+    let within : place_of store c.args.name.now < places = place-within store c.args.name.now ((name_known store c.args.name.now).1 done.2) in
+    rw c.find_name-p.ensures (place-room _ _ _ done.1.store.columns.second within)
 
 pub stretch-pz-requires : goal.stretch-pz-requires
 stretch-pz-requires c =
@@ -60,7 +57,8 @@ stretch-pz-requires c =
     let store : Store = let a = c.args in store_of a.marks.now a.names.now a.sx.now a.sy.now a.sz.now in
     let shape : Mesh = named_shape lent store c.args.name.now in
     let done : Accepted max_nodes max_panels lent × Sized lent store (length c.args.out.now) × KnownName store c.args.name.now × Accepted max_nodes max_panels shape = (shape-done lent store c.args.name.now _).0 (sym c.return_refusal-refusal.ensures ∙ c.if-refusal-ne0.false) in
-    room c _ done.1.store.columns.third
+    let within : place_of store c.args.name.now < places = place-within store c.args.name.now ((name_known store c.args.name.now).1 done.2) in
+    rw c.find_name-p.ensures (place-room _ _ _ done.1.store.columns.third within)
 
 pub restore-count-requires : goal.restore-count-requires
 restore-count-requires c =
@@ -95,11 +93,11 @@ returns c =
     let within : place_of store c.args.name.now < places = place-within store c.args.name.now ((name_known store c.args.name.now).1 done.2) in
     let as_many : nnode shape ≡ nnode lent = shape-long lent store (place_of store c.args.name.now) done.1.store within in
     let stretched : mesh_of c.stretch-px.result.now c.stretch-py.result.now c.stretch-pz.result.now c.args.t0.now c.args.t1.now c.args.t2.now ≡ shape = let a = c.args in let p = c.find_name-p.ensures in let x = c.stretch-px.ensures ∙ ap (stretch a.sx.now (nnode lent)) p in let y = c.stretch-py.ensures ∙ ap (stretch a.sy.now (nnode lent)) p in let z = c.stretch-pz.ensures ∙ ap (stretch a.sz.now (nnode lent)) p in λ i. mesh_of (x i) (y i) (z i) a.t0.now a.t1.now a.t2.now in
-    let held : Coordinates lent × Coordinates shape = let p = place_of store c.args.name.now in ( (c.slice_known-1.given, c.slice_known-2-1.given, c.slice_known-3-1.given), shape_numbers lent store p c.shared_slice_known-6-1.given c.shared_slice_known-7-1.given c.shared_slice_known-8-1.given, ) in
+    let held : Coordinates lent × Coordinates shape = let p = place_of store c.args.name.now in ( (λ k. c.type_inv.x k, λ k. c.type_inv.y k, λ k. c.type_inv.z k), shape_numbers lent store p (λ k. c.type_inv.sx k) (λ k. c.type_inv.sy k) (λ k. c.type_inv.sz k), ) in
     let a = c.args in
     let f = mutual_inductance_block a.kind in
     let w = a.name.now in
     let m₁ = shape in
     let h = held in
     let law = return_fresh f lent m₁ (return_changes lent m₁ h.0 h.1 refl refl refl) as_many in
-    claim_done Unit (cell f) (matrix f) _ lent store w a.out.now (due-under lent store w _) _ _ _ (cell-turned f m₁) law (sym c.if-refusal-ne0.left ∙ c.return_refusal-refusal.ensures) (done_as stretched c.restore-count.ensures)
+    claim_done Unit (cell f) (matrix f) _ lent store w a.out.now (due-under lent store w _) _ _ _ (cell-turned f m₁) law (sym c.if-refusal-ne0.false ∙ c.return_refusal-refusal.ensures) (done_as stretched c.restore-count.ensures)

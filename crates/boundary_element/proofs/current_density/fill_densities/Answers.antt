@@ -1,14 +1,13 @@
 -- After i turns the first i numbers of each column are those of the definition; at the end all are. Each of the three columns by the same laws of a column that is run to i.
 use mathlib.Core.Path.{ap}
 use mathlib.Core.List.{List}
-use Prim.Native.Nat.{◌-◌, ◌≤◌}
+use Prim.Native.Nat.{◌≤◌}
 use native.Mathlib.Omega.{arith}
 use lib.ListN.{length}
 use lib.Ieee.{Float}
 use Rattle.binary64.specs.Binary64.{at}
 use Rattle.lists.proofs.Runs.{begun, front_further, next_room, filled_whole}
-use Rattle.boundary_element.specs.CurrentDensity.{panel_density, current_densities}
-use Rattle.boundary_element.proofs.current_density.fill_densities.Invariants.{component}
+use Rattle.boundary_element.specs.CurrentDensity.{current_densities}
 use Rattle.boundary_element.proofs.current_density.fill_densities.Goals as goal
 
 pub loop-i-init : goal.loop-i-init

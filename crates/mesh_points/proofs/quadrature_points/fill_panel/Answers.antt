@@ -1,7 +1,7 @@
 -- After k turns the first k points from index start are written; each of the four columns by the same laws of a column that is run to k.
 use mathlib.Core.Path.{ap, ◌∙◌}
 use mathlib.Core.List.{List}
-use Prim.Native.Nat.{◌<◌, ◌≤◌, ◌-◌}
+use Prim.Native.Nat.{◌<◌, ◌≤◌}
 use native.Mathlib.Omega.{arith}
 use lib.Ieee.{Float}
 use Rattle.binary64.specs.Binary64.{at, ◌⊗◌}

@@ -1,13 +1,12 @@
 -- After i panels the first i·count numbers of each column are those of the definition; at the end all are. Each of the four columns by the same laws of a column filled panel after panel.
 use mathlib.Core.Path.{◌≡◌, ap}
-use Prim.Native.Nat.{ℕ, ◌≤◌, ◌<◌, ◌-◌, ◌*◌}
+use Prim.Native.Nat.{ℕ, ◌≤◌, ◌<◌, ◌*◌}
 use native.Mathlib.Nat.{mul-le-mul}
 use native.Mathlib.Omega.{arith}
 use lib.ListN.{length}
 use Rattle.tri.proofs.Counts.{count-between}
 use Rattle.mesh_points.specs.QuadraturePoints.{mesh_points, mesh_weights}
 use Rattle.mesh_points.proofs.Panels.{panels_begun, panels-long, panel_room, panel_more, panels_end}
-use Rattle.mesh_points.proofs.quadrature_points.fill_points.Invariants.{coordinate}
 use Rattle.mesh_points.proofs.quadrature_points.fill_points.Goals as goal
 
 pub loop-i-init : goal.loop-i-init
