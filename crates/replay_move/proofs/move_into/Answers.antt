@@ -14,7 +14,7 @@ left_as_due-requires c =
 pub returns : goal.returns
 returns c =
     let a = c.args in
-    compared a.rule a.t10 a.w.now a.k a.t0.now a.t1.now a.t2.now c.requires.x_value c.move_node-moved.ensures c.left_as_due.ensures
+    compared a.rule a.place a.w.now a.k a.t0.now a.t1.now a.t2.now c.requires.x_value c.move_node-moved.ensures c.left_as_due.ensures
 
 pub bounds-place-0 : goal.bounds-place-0
 bounds-place-0 c = le-add_right 1 2
