@@ -1,6 +1,6 @@
 -- After i turns the sum is that over the first i rows of the distances, and held has their shares.
 use mathlib.Core.Path.{◌≡◌, refl}
-use Prim.Native.Nat.{◌<◌, ◌-◌}
+use Prim.Native.Nat.{◌<◌}
 use native.Mathlib.Nat.{le_trans}
 use native.Mathlib.Omega.{arith}
 use Rattle.point_distances.proofs.Turns.{pairs_fit, row_fits}

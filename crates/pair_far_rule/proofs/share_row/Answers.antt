@@ -1,6 +1,5 @@
 -- After j turns the sum is that over the first j points, and the first j places of held have their share.
 use mathlib.Core.Path.{◌≡◌, refl}
-use Prim.Native.Nat.{◌-◌}
 use native.Mathlib.Omega.{arith}
 use borrow.Author.Rules.{rules}
 use Rattle.lists.specs.Sums.{running_sum}

@@ -1,6 +1,5 @@
 -- After j turns the first j differences from index start are in place.
 use mathlib.Core.Path.{refl}
-use Prim.Native.Nat.{◌-◌}
 use native.Mathlib.Omega.{arith}
 use Rattle.lists.proofs.Runs.{begun, one_further, all_run}
 use Rattle.point_distances.proofs.difference_row.Goals as goal

@@ -1,8 +1,6 @@
 -- After k turns the first k estimates are in place.
 use mathlib.Core.Path.{refl}
-use Prim.Native.Nat.{◌-◌}
 use native.Mathlib.Omega.{arith}
-use Rattle.square_root.specs.Estimate.{root_estimate}
 use Rattle.lists.proofs.Runs.{begun, front_further, all_run}
 use Rattle.point_distances.proofs.estimates.Goals as goal
 

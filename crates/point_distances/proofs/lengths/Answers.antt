@@ -1,6 +1,6 @@
 -- After k turns the first k lengths are in place.
 use mathlib.Core.Path.{refl}
-use Prim.Native.Nat.{◌-◌, ◌<◌}
+use Prim.Native.Nat.{◌<◌}
 use native.Mathlib.Omega.{arith}
 use Rattle.lists.proofs.Runs.{begun, front_further, all_run}
 use Rattle.point_distances.proofs.lengths.Goals as goal

@@ -1,6 +1,6 @@
 -- After k turns the first k squares are in place, each the square of its vector's length or NaN.
 use mathlib.Core.Path.{refl, sym, subst}
-use Prim.Native.Nat.{ℕ, ◌-◌}
+use Prim.Native.Nat.{ℕ}
 use native.Mathlib.Nat.{not-suc-le-zero}
 use native.Mathlib.Omega.{arith}
 use Rattle.lists.proofs.Indices.{one_more}

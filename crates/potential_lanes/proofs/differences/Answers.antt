@@ -1,6 +1,5 @@
 -- As in distances_from_plane: a turn writes the next difference.
 use mathlib.Core.Path.{refl}
-use Prim.Native.Nat.{◌-◌}
 use native.Mathlib.Omega.{arith}
 use Rattle.lists.proofs.Indices.{index_fits}
 use Rattle.lists.proofs.Filled.{filled_start, filled_next, filled_all}

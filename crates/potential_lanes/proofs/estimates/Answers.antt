@@ -1,7 +1,5 @@
 -- As in distances_from_plane: a turn writes the next estimate.
-use Prim.Native.Nat.{◌-◌}
 use native.Mathlib.Omega.{arith}
-use Rattle.square_root.specs.Estimate.{root_estimate}
 use Rattle.lists.proofs.Indices.{index_fits}
 use Rattle.lists.proofs.Filled.{filled_start, filled_next, filled_all}
 use Rattle.potential_lanes.proofs.estimates.Goals as goal

@@ -1,5 +1,4 @@
 -- After i turns the first i integrals are in place; a turn writes the next, by the two arc sines of its point.
-use Prim.Native.Nat.{◌-◌}
 use native.Mathlib.Omega.{arith}
 use Rattle.lists.proofs.Indices.{index_fits}
 use Rattle.lists.proofs.Filled.{filled_start, filled_next, filled_all}

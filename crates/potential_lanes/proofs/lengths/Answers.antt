@@ -1,5 +1,4 @@
 -- As in distances_from_plane: a turn writes the next length, whatever the estimate of its root.
-use Prim.Native.Nat.{◌-◌}
 use native.Mathlib.Omega.{arith}
 use Rattle.lists.proofs.Indices.{index_fits}
 use Rattle.lists.proofs.Filled.{filled_start, filled_next, filled_all}

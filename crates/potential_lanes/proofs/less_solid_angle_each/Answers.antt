@@ -1,7 +1,5 @@
 -- As in distances_from_plane: a turn writes the next value.
-use Prim.Native.Nat.{◌-◌}
 use native.Mathlib.Omega.{arith}
-use Rattle.potential.specs.Potential.{less_solid_angle}
 use Rattle.lists.proofs.Indices.{index_fits}
 use Rattle.lists.proofs.Filled.{filled_start, filled_next, filled_all}
 use Rattle.potential_lanes.proofs.less_solid_angle_each.Goals as goal

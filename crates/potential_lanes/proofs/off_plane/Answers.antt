@@ -1,6 +1,5 @@
 -- After i turns the first i are tested.
 use mathlib.Core.Path.{◌≡◌, refl}
-use Prim.Native.Nat.{◌-◌}
 use native.Mathlib.Omega.{arith}
 use Rattle.lists.specs.Counting.{some_below}
 use Rattle.lists.proofs.Counting.{some_more}

@@ -1,6 +1,5 @@
 -- After i turns both quotients of the first i points are in place; the two places that a turn writes are seven apart.
 use mathlib.Core.Path.{refl}
-use Prim.Native.Nat.{◌-◌}
 use native.Mathlib.Omega.{arith}
 use borrow.Author.Rules.{rules}
 use Rattle.lists.proofs.Indices.{index_fits}

@@ -1,6 +1,5 @@
 -- After i turns the first i squares are in place, and each is the square of its vector's length or NaN; a turn writes the next, by the contract of the lane.
 use mathlib.Core.Path.{sym, ap, ◌∙◌}
-use Prim.Native.Nat.{◌-◌}
 use native.Mathlib.Omega.{arith}
 use lib.Ieee.{is_nan}
 use Rattle.lists.proofs.Indices.{index_fits, one_more}

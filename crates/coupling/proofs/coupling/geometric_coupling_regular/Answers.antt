@@ -1,6 +1,5 @@
 -- As in triangle_scalar_potential_regular: the sum over the first k rows, with one row more a turn.
 use mathlib.Core.Path.{◌≡◌, refl}
-use Prim.Native.Nat.{◌-◌}
 use native.Mathlib.Omega.{arith}
 use Rattle.coupling.specs.Coupling as Spec
 use Rattle.lists.specs.Sums.{running_sum}

@@ -1,6 +1,5 @@
 -- After k turns the sum is the definition's over the first k rows; a turn adds the next row, by the contract of its part.
 use mathlib.Core.Path.{◌≡◌, refl}
-use Prim.Native.Nat.{◌-◌}
 use native.Mathlib.Omega.{arith}
 use Rattle.coupling.specs.Coupling as Spec
 use Rattle.lists.specs.Sums.{running_sum}
