@@ -153,13 +153,17 @@ plain_three d a b c p = plain_min (min (min d a) b) c (plain_min (min d a) b (pl
 
 -- ---- the panels' distance
 -- one stage: what is found is all there is and the rest decides, or it is near and so is all there is
+staged : (limit x all : Float) (found rest : Bool) → (lt limit x ≡ true → x ≡ all) → (lt limit x ≡ false → Near limit all) → (x ≡ all → found ≡ rest) → (Near limit all → rest ≡ false)
+    → cond (lt limit x) found false ≡ rest
+staged limit x all found rest whole near same none = go (lt limit x) refl
+  where
+    go : (b : Bool) → lt limit x ≡ b → cond b found false ≡ rest
+    go true e = same (whole e)
+    go false e = sym (none (near e))
+
 stage : (limit x all : Float) (k : Float → Bool) (rest : Bool) → (lt limit x ≡ true → x ≡ all) → (lt limit x ≡ false → Near limit all) → k all ≡ rest → (Near limit all → rest ≡ false)
     → cond (lt limit x) (k x) false ≡ rest
-stage limit x all k rest whole near same none = go (lt limit x) refl
-  where
-    go : (b : Bool) → lt limit x ≡ b → cond b (k x) false ≡ rest
-    go true e = ap k (whole e) ∙ same
-    go false e = sym (none (near e))
+stage limit x all k rest whole near same none = staged limit x all (k x) rest whole near (λ e. ap k e ∙ same) none
 
 module _ (limit : Float) where
   near-corners : (d : Float) (s t : Tri) → Near limit d → Near limit (least_of_corners d s t)
@@ -217,13 +221,12 @@ module _ (limit : Float) where
     edges_beyond_is d n =
         let n0 = plain_edges d (corner s 0) (corner s 1) t n in
         let n1 = plain_edges (first d) (corner s 1) (corner s 2) t n0 in
-        stage limit (edges_until limit d (corner s 0) (corner s 1) t) (first d)
-        (λ x. cond (lt limit (edges_until limit x (corner s 1) (corner s 2) t)) (lt limit (edges_until limit (edges_until limit x (corner s 1) (corner s 2) t) (corner s 2) (corner s 0) t)) false)
+        staged limit (edges_until limit d (corner s 0) (corner s 1) t) (first d) _
         (lt limit (third d)) (edges_all d (corner s 0) (corner s 1) t) (edges_near d (corner s 0) (corner s 1) t n)
-        (stage limit (edges_until limit (first d) (corner s 1) (corner s 2) t) (second d) (λ x. lt limit (edges_until limit x (corner s 2) (corner s 0) t))
+        (λ e. rw e (staged limit (edges_until limit (first d) (corner s 1) (corner s 2) t) (second d) _
         (lt limit (third d)) (edges_all (first d) (corner s 1) (corner s 2) t) (edges_near (first d) (corner s 1) (corner s 2) t n0)
-        (last_edges (second d) (corner s 2) (corner s 0) t n1)
-        (λ a. (near_edges (second d) (corner s 2) (corner s 0) t a).within))
+        (λ e. rw e (last_edges (second d) (corner s 2) (corner s 0) t n1))
+        (λ a. (near_edges (second d) (corner s 2) (corner s 0) t a).within)))
         (λ a. (near_edges (second d) (corner s 2) (corner s 0) t (near_edges (first d) (corner s 1) (corner s 2) t a)).within)
 
     near-third : (d : Float) → Near limit d → lt limit (third d) ≡ false

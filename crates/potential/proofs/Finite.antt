@@ -24,17 +24,17 @@ both : (a b : Bool) → a && b ≡ true → (a ≡ true) × (b ≡ true)
 both true b h = (refl, h)
 both false b h = absurd (false≢true h)
 
--- 1e100 is 0x1249ad2594c37d × 2 ^ 280
-under : (a c : ℕ) → a * 1 < 0x12_49ad_2594_c37d * 2 ^ 280 * c → a ≤ 2 ^ 333 * c
-under a c h = le_trans (le_of_eq (sym (mul-one a))) (le_trans (le_of_lt h) (mul-le-mul_right c (lit≤ tt)))
+-- for the limit l, which is below 2 ^ 333: 1e100 is 0x1249ad2594c37d × 2 ^ 280
+under : (l a c : ℕ) → l ≤ 2 ^ 333 → a * 1 < l * c → a ≤ 2 ^ 333 * c
+under l a c b h = le_trans (le_of_eq (sym (mul-one a))) (le_trans (le_of_lt h) (mul-le-mul_right c b))
 
 limit-below : (x : Float) → lt (neg limit) x ≡ true → lt x limit ≡ true → Below 333 x
 unfolding lt neg of_bits
 limit-below nan h g = absurd (false≢true h)
 limit-below (inf true) h g = absurd (false≢true h)
 limit-below (inf false) h g = absurd (false≢true g)
-limit-below (fin true m e) h g = below (under (m * up e) (down e) (ltb-true (m * up e * 1) (0x12_49ad_2594_c37d * 2 ^ 280 * down e) h))
-limit-below (fin false m e) h g = below (under (m * up e) (down e) (ltb-true (m * up e * 1) (0x12_49ad_2594_c37d * 2 ^ 280 * down e) g))
+limit-below (fin true m e) h g = below (under _ (m * up e) (down e) (lit≤ tt) (ltb-true _ _ h))
+limit-below (fin false m e) h g = below (under _ (m * up e) (down e) (lit≤ tt) (ltb-true _ _ g))
 
 moderate-below : (x : Float) → moderate x ≡ true → Below 333 x
 unfolding moderate
@@ -47,8 +47,8 @@ Bound k v = Below k (at v 0) × Below k (at v 1) × Below k (at v 2)
 moderate3_bound : (v : Vec) → moderate3 v ≡ true → Bound 333 v
 unfolding moderate3
 moderate3_bound v h =
-    let p = both (moderate (at v 0) && moderate (at v 1)) (moderate (at v 2)) h in
-    let q = both (moderate (at v 0)) (moderate (at v 1)) p.0 in
+    let p = both _ _ h in
+    let q = both _ _ p.0 in
     (moderate-below (at v 0) q.0, moderate-below (at v 1) q.1, moderate-below (at v 2) p.1)
 
 -- ---- the solid angle

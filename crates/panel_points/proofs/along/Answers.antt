@@ -1,6 +1,5 @@
 -- After k turns the first k places have the coordinate of the first k points; a turn writes the next.
 use mathlib.Core.Path.{◌≡◌, refl}
-use Prim.Native.Nat.{◌-◌}
 use native.Mathlib.Omega.{arith}
 use borrow.Author.Rules.{rules}
 use Rattle.lists.proofs.Indices.{index_fits}

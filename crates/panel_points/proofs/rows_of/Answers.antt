@@ -1,6 +1,5 @@
 -- After k turns each of the four lists has its number of the first k rows; a turn writes the next row's into all four.
 use mathlib.Core.Path.{◌≡◌, refl}
-use Prim.Native.Nat.{◌-◌}
 use native.Mathlib.Omega.{arith}
 use borrow.Author.Rules.{rules}
 use Rattle.tri.proofs.Counts.{count-between}

@@ -1,6 +1,5 @@
 -- After j turns the sum is that over the first j places; a turn adds the next.
 use mathlib.Core.Path.{◌≡◌, refl}
-use Prim.Native.Nat.{◌-◌}
 use native.Mathlib.Omega.{arith}
 use borrow.Author.Rules.{rules}
 use Rattle.lists.specs.Sums.{running_sum}

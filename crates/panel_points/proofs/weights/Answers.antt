@@ -1,6 +1,5 @@
 -- As in along: after k turns the first k places have the first k weights.
 use mathlib.Core.Path.{◌≡◌, refl}
-use Prim.Native.Nat.{◌-◌}
 use native.Mathlib.Omega.{arith}
 use borrow.Author.Rules.{rules}
 use Rattle.lists.proofs.Indices.{index_fits}
