@@ -10,8 +10,8 @@ source=$(cd "${1:?usage: compare.sh SOURCE [SEED [SCALE [KIND]] | soak MINUTES [
 shift
 "$here/build.sh" "$source"
 "$here/../archive.sh" | tail -n 1
-(cd "$here/.." && rt check density | tail -n 1)
-export SCREENS_DENSITY=$here/../target/bin/density
+(cd "$here/../crates/density" && rt run < stdin > /dev/null)
+export SCREENS_DENSITY=$here/../crates/density/out/density
 cd "$here/build"
 SCREENS_LIB=$here/../target/staticlib CARGO_NET_OFFLINE=true RUSTFLAGS="-A warnings" \
   cargo build -q --release -p compare --target-dir target

@@ -1,4 +1,4 @@
--- The Boolean tests of the guided form, as facts on numbers: each `…-is` reads a test that came out true, `leads_no` and `leads_yes` say what `leads` comes
+-- The Boolean tests of the guided form, as facts on numbers: each `…_is` reads a test that came out true, `leads_no` and `leads_yes` say what `leads` comes
 -- to.
 use Rattle.std.proofs.Common.{◌≡◌, ℕ, suc, ◌+◌, ◌*◌, ◌^◌, ◌<◌, ◌≤◌, Bool, true, false, ◌&&◌, T, ltb, leb, sym, refl, subst, le→leb, ltb→lt, lt→ltb, leb→le}
 use lib.Ieee.Fits.{and_l, and_r, and_i}

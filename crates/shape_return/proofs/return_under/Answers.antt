@@ -15,6 +15,7 @@ use Rattle.shape_return.specs.Return.{named_shape, Sized, ShapeOf}
 use Rattle.shape_return.proofs.Laws.{Coordinates, shape_numbers, return_changes, return_fresh}
 use Rattle.shape_return.proofs.Numbers.{place-room, shape-long, shape-done}
 use Rattle.shape_return.proofs.Refused.{done_as, due-under, claim_refused, claim_done}
+use borrow.Author.Rules.{rules}
 use Rattle.shape_return.proofs.return_under.Goals as goal
 
 pub returns-then-refusal-ne0 : goal.returns-then-refusal-ne0
@@ -93,7 +94,7 @@ returns c =
     let within : place_of store c.args.name.now < places = place-within store c.args.name.now ((name_known store c.args.name.now).1 done.2) in
     let as_many : nnode shape ≡ nnode lent = shape-long lent store (place_of store c.args.name.now) done.1.store within in
     let stretched : mesh_of c.stretch-px.result.now c.stretch-py.result.now c.stretch-pz.result.now c.args.t0.now c.args.t1.now c.args.t2.now ≡ shape = let a = c.args in let p = c.find_name-p.ensures in let x = c.stretch-px.ensures ∙ ap (stretch a.sx.now (nnode lent)) p in let y = c.stretch-py.ensures ∙ ap (stretch a.sy.now (nnode lent)) p in let z = c.stretch-pz.ensures ∙ ap (stretch a.sz.now (nnode lent)) p in λ i. mesh_of (x i) (y i) (z i) a.t0.now a.t1.now a.t2.now in
-    let held : Coordinates lent × Coordinates shape = let p = place_of store c.args.name.now in ( (λ k. c.type_inv.x k, λ k. c.type_inv.y k, λ k. c.type_inv.z k), shape_numbers lent store p (λ k. c.type_inv.sx k) (λ k. c.type_inv.sy k) (λ k. c.type_inv.sz k), ) in
+    let held : Coordinates lent × Coordinates shape = let p = place_of store c.args.name.now in ((search rules, search rules, search rules), shape_numbers lent store p c.type_inv.sx c.type_inv.sy c.type_inv.sz) in
     let a = c.args in
     let f = mutual_inductance_block a.kind in
     let w = a.name.now in
