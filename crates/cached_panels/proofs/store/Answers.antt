@@ -1,6 +1,5 @@
 -- The first k numbers are written.
 use mathlib.Core.Path.{refl}
-use Prim.Native.Nat.{◌-◌}
 use native.Mathlib.Omega.{arith}
 use Rattle.lists.proofs.Runs.{begun, one_further, all_run}
 use Rattle.cached_panels.proofs.store.Goals as goal

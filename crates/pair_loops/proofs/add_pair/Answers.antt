@@ -27,10 +27,13 @@ scatter_pair-requires c =
     let m : Mesh = mesh_of a.x.now a.y.now a.z.now a.t0.now a.t1.now a.t2.now in
     let i = c.triangle_indices-s in
     let j = c.triangle_indices-t in
-    let q = c.requires.i_in_bounds in record { sized = c.requires.ready.sized; all_below = (
+    let q = c.requires.i_in_bounds in record {
+      sized = c.requires.ready.sized;
+      all_below = (
         panel_below m a.i (nnode m) i.result (c.requires.ready.none_missing a.i q.0) (le_refl (nnode m)) i.ensures,
         panel_below m a.j (nnode m) j.result (c.requires.ready.none_missing a.j q.1) (le_refl (nnode m)) j.ensures,
-      ) }
+      );
+    }
 
 pub returns : goal.returns
 returns c =
