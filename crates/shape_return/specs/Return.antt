@@ -9,7 +9,7 @@ use Rattle.tri.specs.declared.quadrature.QuadratureKind.{QuadratureKind}
 use Rattle.tri.specs.declared.quadrature.Rule.{Rule}
 use Rattle.refusal.specs.Numbers.{no_such_choice, output_length, zero_area, unknown_name}
 use Rattle.refusal.specs.Checks.{Check, check, first}
-use Rattle.mesh.specs.Mesh.{Mesh, mesh_of, nnode, mesh_checks, max_nodes, max_panels, passed_mesh, left_mesh}
+use Rattle.mesh.specs.Mesh.{Mesh, mesh_of, nnode, mesh_checks, max_nodes, max_panels, left_mesh}
 use Rattle.mesh.specs.Conditions.{ZeroArea, Refused4, Accepted, MeshNumbered}
 use Rattle.coupling.specs.Block.{mutual_inductance_block}
 use Rattle.scatter.specs.Renewal.{marked, renewed}

@@ -1,6 +1,6 @@
 -- A refusal leaves everything as it was; a return that is done has both shapes accepted, and its own claim is that of the call.
 use mathlib.Core.Path.{◌≡◌, refl, sym, ap, ◌∙◌, subst}
-use Prim.Native.Nat.{ℕ, ◌+◌, ◌*◌, ◌<◌, ◌≤◌}
+use Prim.Native.Nat.{◌<◌}
 use lib.ListN.{length}
 use Rattle.lists.specs.Stretch.{stretch}
 use Rattle.mesh.specs.Mesh.{Mesh, mesh_of, nnode, max_nodes, max_panels}
