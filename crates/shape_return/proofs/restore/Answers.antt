@@ -20,13 +20,10 @@ slice_bounds-count_marks-end c = sym c.mark_changed_rings.auto.marks
 
 pub count_marks-r-requires : goal.count_marks-r-requires
 count_marks-r-requires c =
-    let mesh : Mesh = let a = c.args in mesh_of a.x.now a.y.now a.z.now a.t0.now a.t1.now a.t2.now in
     le_trans c.requires.shape_of.mesh.limits.few_nodes (le_of_eq (sym c.mark_changed_rings.auto.marks))
 
 pub set_nodes-requires : goal.set_nodes-requires
 set_nodes-requires c =
-    let mesh : Mesh = let a = c.args in mesh_of a.x.now a.y.now a.z.now a.t0.now a.t1.now a.t2.now in
-    let shape : Mesh = let a = c.args in mesh_of a.px.now a.py.now a.pz.now a.t0.now a.t1.now a.t2.now in
     let w = c.requires.shape_of in
     let x = w.mesh.nodes_alike in
     let p = w.shape.nodes_alike in
@@ -47,7 +44,6 @@ renew-requires c =
 
 pub named_cells-requires : goal.named_cells-requires
 named_cells-requires c =
-    let mesh : Mesh = let a = c.args in mesh_of a.x.now a.y.now a.z.now a.t0.now a.t1.now a.t2.now in
     let n = length c.args.x.now in
     (c.requires.shape_of.mesh.limits.few_nodes, subst (λ (k : ℕ). k ≤ n) (sym c.count_marks-r.ensures) (count_bound (marked c.mark_changed_rings.new.marks) n))
 
