@@ -12,3 +12,7 @@ quietly "$oracle" stored "$here"
 for file in calls meshes matrices returns large; do
   quietly "$oracle" check "$here/$file.bin" 1
 done
+# What the programs in Rattle read is the same bytes.
+for file in calls meshes matrices returns; do
+  cp "$here/$file.bin" "$here/../../crates/oracle_$file/stdin"
+done
