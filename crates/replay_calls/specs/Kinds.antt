@@ -15,9 +15,6 @@ use Rattle.coupling.specs.Coupling as Coupling
 use Rattle.panel_distance.specs.Bisection as Bisection
 use Rattle.coupling.specs.Block as Block
 use Rattle.coupling.specs.Calls as Calls
-use Rattle.refusal.specs.declared.Answer.{Answer}
-use Rattle.coupling.specs.declared.calls.BlockAnswer.{BlockAnswer}
-use Rattle.potential.specs.declared.UniformTriangle.{UniformTriangle}
 use Rattle.replay_words.specs.Words.{vector_at, triangle_at, coordinates_at, rule_of, same_word, same_number, same_vector, same_triangle, same_nine, same_value, same_flag}
 
 -- the case's numbers f and its words w

@@ -1,6 +1,6 @@
 -- The array is filled from the front.
-use Rattle.std.proofs.Common.{◌-◌, rules}
-use Rattle.replay_cases.specs.Case.{place_at, places_of}
+use Rattle.std.proofs.Common.{rules}
+use Rattle.replay_cases.specs.Case.{places_of}
 use Rattle.replay_cases.proofs.Unpacked.{start, one_more, whole}
 use Rattle.replay_cases.proofs.case.places.Goals as goal
 

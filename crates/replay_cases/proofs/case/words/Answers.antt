@@ -1,6 +1,6 @@
 -- The array is filled from the front.
-use Rattle.std.proofs.Common.{◌-◌, rules}
-use Rattle.replay_cases.specs.Case.{word_at, words_of}
+use Rattle.std.proofs.Common.{rules}
+use Rattle.replay_cases.specs.Case.{words_of}
 use Rattle.replay_cases.proofs.Unpacked.{start, one_more, whole}
 use Rattle.replay_cases.proofs.case.words.Goals as goal
 

@@ -1,6 +1,5 @@
 -- at is the place of part j, each at most 81 places behind the one before.
 use mathlib.Core.Path.{◌≡◌, refl}
-use Prim.Native.Nat.{◌-◌}
 use native.Mathlib.Omega.{arith}
 use borrow.Author.Rules.{rules}
 use Rattle.replay_columns.specs.Store.{part_at}

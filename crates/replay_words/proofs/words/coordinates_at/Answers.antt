@@ -1,6 +1,6 @@
 -- Nine reads.
 use native.Mathlib.Omega.{arith}
-use Rattle.std.proofs.Common.{rules, refl}
+use Rattle.std.proofs.Common.{rules}
 use Rattle.lists.proofs.Indices.{index_fits}
 use Rattle.replay_words.specs.Words.{coordinates_at}
 use Rattle.replay_words.proofs.words.coordinates_at.Goals as goal

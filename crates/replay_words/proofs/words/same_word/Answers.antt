@@ -1,6 +1,6 @@
 -- One test.
 use native.Mathlib.Omega.{arith}
-use Rattle.std.proofs.Common.{rules, refl}
+use Rattle.std.proofs.Common.{rules}
 use Rattle.lists.proofs.Indices.{index_fits}
 use Rattle.replay_words.specs.Words.{same_word}
 use Rattle.replay_words.proofs.words.same_word.Goals as goal

@@ -1,6 +1,6 @@
 -- Three reads.
 use native.Mathlib.Omega.{arith}
-use Rattle.std.proofs.Common.{rules, refl}
+use Rattle.std.proofs.Common.{rules}
 use Rattle.lists.proofs.Indices.{index_fits}
 use Rattle.replay_words.specs.Words.{vector_at}
 use Rattle.replay_words.proofs.words.vector.Goals as goal

@@ -1,6 +1,5 @@
 -- w is the worst of the first k rows.
 use mathlib.Core.Path.{◌≡◌, refl}
-use Prim.Native.Nat.{◌-◌}
 use native.Mathlib.Omega.{arith}
 use borrow.Author.Rules.{rules}
 use Rattle.worked_examples.specs.Gaps.{worst}
