@@ -102,7 +102,8 @@ pub fn cached_panel(
     requires node_columns_alike { NodeColumnsAlike (lent_mesh x y z t0 t1 t2) }
     requires panel_columns_alike { PanelColumnsAlike (lent_mesh x y z t0 t1 t2) }
     requires j_in_bounds { (j < length t0.now) × Below (lent_mesh x y z t0 t1 t2) j }
-    requires panel_number_count_in_bounds { (length t0.now * panel_number_count ≤ length cache.now) × Spec.Cached (length t0.now) (lent_mesh x y z t0 t1 t2) cache.now }
+    requires panel_number_count_in_bounds { (length t0.now * panel_number_count ≤ length cache.now)
+        × Spec.Cached (length t0.now) (lent_mesh x y z t0 t1 t2) cache.now }
     ensures { result ≡ panel_numbers (triangle_nodes (passed_mesh x y z t0 t1 t2) j) }
 {
     let base = j * PANEL_NUMBERS;

@@ -25,7 +25,8 @@ fn move_accepted(
     pz: f64,
 ) -> usize
     requires { MoveReady (mesh_of x.old y.old z.old t0.now t1.now t2.now) out.old v }
-    ensures { Done (cell (mutual_inductance_block kind)) (mesh_of x.old y.old z.old t0.now t1.now t2.now) out.old v px py pz result (left_mesh x y z t0 t1 t2) out.new }
+    ensures { Done (cell (mutual_inductance_block kind)) (mesh_of x.old y.old z.old t0.now t1.now t2.now) out.old v px py pz
+        result (left_mesh x y z t0 t1 t2) out.new }
 {
     let n = x.len();
     let mut marks = [false; mesh::MAX_NODES];
@@ -60,7 +61,8 @@ fn move_under(
     py: f64,
     pz: f64,
 ) -> Moved
-    ensures { MovedUnder kind (mesh_of x.old y.old z.old t0.now t1.now t2.now) out.old v px py pz result.refusal result.count (left_mesh x y z t0 t1 t2) out.new }
+    ensures { MovedUnder kind (mesh_of x.old y.old z.old t0.now t1.now t2.now) out.old v px py pz
+        result.refusal result.count (left_mesh x y z t0 t1 t2) out.new }
 {
     let refusal = node_ring::place_refusal(x, y, z, t0, t1, t2, out.len(), v, px, py, pz);
     if refusal != 0 {

@@ -109,7 +109,8 @@ fn restore(
 ) -> usize
     requires shape_of { ShapeOf (lent_mesh px py pz t0 t1 t2) (mesh_of x.old y.old z.old t0.now t1.now t2.now) }
     requires out_len { length out.old ≡ length x.old * length x.old }
-    ensures { DoneUnder kind (mesh_of x.old y.old z.old t0.now t1.now t2.now) (passed_mesh px py pz t0 t1 t2) out.old result (left_mesh x y z t0 t1 t2) out.new }
+    ensures { DoneUnder kind (mesh_of x.old y.old z.old t0.now t1.now t2.now) (passed_mesh px py pz t0 t1 t2) out.old
+        result (left_mesh x y z t0 t1 t2) out.new }
 {
     let n = x.len();
     let mut marks = [false; mesh::MAX_NODES];
