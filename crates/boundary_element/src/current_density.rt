@@ -1,11 +1,17 @@
 // The current density of nodal stream-function values: on one panel, and on every panel of a mesh.
 ghost use Rattle.std.specs.Prelude.{◌≡◌, ◌<◌, length, get_or};
-ghost use Rattle.mesh.specs.Mesh.{max_nodes, max_panels, passed_mesh, lent_mesh};
+ghost use Rattle.mesh.specs.Mesh.{max_nodes, max_panels, nnode, ntri};
+ghost use Rattle.mesh.specs.Columns.{viewed};
 ghost use Rattle.mesh.specs.Conditions.{Accepted};
+ghost use Rattle.refusal.specs.Outcome.{number_of};
 ghost use Rattle.boundary_element.specs.CurrentDensity as Spec;
 ghost use Rattle.boundary_element.specs.CurrentDensity.{Stored, DensityReady, Densities};
 
+use mesh::columns::TriangleMeshView;
+use refusal::Refusal;
+
 // The density of a unit value at corner 0.
+#[tactic(auto, unfolding(crate::specs::CurrentDensity::basis_current_density))]
 fn basis_current_density(t: [[f64; 3]; 3]) -> [f64; 3]
     ensures { result ≡ Spec.basis_current_density t }
 {
@@ -28,6 +34,7 @@ fn turned(t: [[f64; 3]; 3]) -> [[f64; 3]; 3]
 }
 
 // The densities of a unit value at each corner.
+#[tactic(auto, unfolding(crate::specs::CurrentDensity::triangle_basis_current_densities))]
 pub fn triangle_basis_current_densities(t: [[f64; 3]; 3]) -> [[f64; 3]; 3]
     ensures { result ≡ Spec.triangle_basis_current_densities t }
 {
@@ -40,6 +47,7 @@ pub fn triangle_basis_current_densities(t: [[f64; 3]; 3]) -> [[f64; 3]; 3]
 }
 
 // The density of the values s at the corners.
+#[tactic(auto, unfolding(crate::specs::CurrentDensity::triangle_current_density, crate::specs::CurrentDensity::combined))]
 pub fn triangle_current_density(t: [[f64; 3]; 3], s: [f64; 3]) -> [f64; 3]
     ensures { result ≡ Spec.triangle_current_density t s }
 {
@@ -52,6 +60,7 @@ pub fn triangle_current_density(t: [[f64; 3]; 3], s: [f64; 3]) -> [f64; 3]
 }
 
 // The nodal values at three nodes.
+#[tactic(auto, unfolding(crate::specs::CurrentDensity::triangle_scalars))]
 fn triangle_scalars(indices: [usize; 3], s: &[f64]) -> [f64; 3]
     requires { (get_or indices 0 0 < length s.now) × (get_or indices 1 0 < length s.now) × (get_or indices 2 0 < length s.now) }
     ensures { result ≡ Spec.triangle_scalars indices s.now }
@@ -60,23 +69,13 @@ fn triangle_scalars(indices: [usize; 3], s: &[f64]) -> [f64; 3]
 }
 
 // The density of panel i.
-fn panel_density(
-    x: &[f64],
-    y: &[f64],
-    z: &[f64],
-    t0: &[usize],
-    t1: &[usize],
-    t2: &[usize],
-    s: &[f64],
-    i: usize,
-) -> [f64; 3]
-    requires accepted { Accepted max_nodes max_panels (lent_mesh x y z t0 t1 t2) }
-    requires s_len { (length s.now ≡ length x.now) × (i < length t0.now) }
-    ensures { result ≡ Spec.panel_density (passed_mesh x y z t0 t1 t2) s.now i }
+fn panel_density(mesh: &TriangleMeshView, s: &[f64], i: usize) -> [f64; 3]
+    requires accepted { Accepted max_nodes max_panels (viewed mesh.now) }
+    requires s_len { (length s.now ≡ nnode (viewed mesh.now)) × (i < ntri (viewed mesh.now)) }
+    ensures { result ≡ Spec.panel_density (viewed mesh.now) s.now i }
 {
-    let t = mesh::triangle_nodes(x, y, z, t0, t1, t2, i);
-    let v = triangle_scalars(mesh::triangle_indices(t0, t1, t2, i), s);
-    triangle_current_density(t, v)
+    let v = triangle_scalars(mesh.panels.triangle_indices(i), s);
+    triangle_current_density(mesh.triangle_nodes(i), v)
 }
 
 // A vector's components, each into its column at i.
@@ -89,76 +88,54 @@ pub fn store3(a: &mut [f64], b: &mut [f64], c: &mut [f64], i: usize, v: [f64; 3]
     c[i] = v[2];
 }
 
-// The densities of all panels of an accepted mesh.
+// The densities of all panels of an accepted mesh. The outputs are three columns, as the C function lends them.
 fn fill_densities(
-    x: &[f64],
-    y: &[f64],
-    z: &[f64],
-    t0: &[usize],
-    t1: &[usize],
-    t2: &[usize],
+    mesh: &TriangleMeshView,
     s: &[f64],
     jx: &mut [f64],
     jy: &mut [f64],
     jz: &mut [f64],
 )
-    requires { DensityReady (lent_mesh x y z t0 t1 t2) s.now jx.old jy.old jz.old }
-    ensures { Spec.Currents (passed_mesh x y z t0 t1 t2) s.now jx.new jy.new jz.new }
+    requires { DensityReady (viewed mesh.now) s.now jx.old jy.old jz.old }
+    ensures { Spec.Currents (viewed mesh.now) s.now jx.new jy.new jz.new }
 {
-    let mut i = 0;
-    while i < t0.len() {
-        store3(jx, jy, jz, i, panel_density(x, y, z, t0, t1, t2, s, i));
-        i += 1;
+    for i in 0..mesh.ntri() {
+        store3(jx, jy, jz, i, panel_density(mesh, s, i));
     }
 }
 
-// The number of the call, 0 if it is done.
-fn density_refusal(
-    x: &[f64],
-    y: &[f64],
-    z: &[f64],
-    t0: &[usize],
-    t1: &[usize],
-    t2: &[usize],
+// The call for so many nodal values and outputs of these lengths.
+#[tactic(auto, using(mesh::proofs::Refusals::refused_by, mesh::proofs::Refusals::done_passed), unfolding(crate::specs::CurrentDensity::density_refusal, refusal::specs::Checks::first))]
+fn check_density(
+    mesh: &TriangleMeshView,
     values: usize,
     lx: usize,
     ly: usize,
     lz: usize,
-) -> u32
-    ensures { result ≡ Spec.density_refusal (passed_mesh x y z t0 t1 t2) values lx ly lz }
+) -> Result<(), Refusal>
+    ensures { number_of result ≡ Spec.density_refusal (viewed mesh.now) values lx ly lz }
 {
-    let refusal = mesh::mesh_refusal(x, y, z, t0, t1, t2);
-    if refusal != 0 {
-        return refusal;
+    mesh::check_mesh(mesh)?;
+    if values != mesh.nnode() {
+        return Err(Refusal::NodalValues);
     }
-    if values != x.len() {
-        return refusal::NODAL_VALUES;
+    if lists::columns_differ(mesh.ntri(), lx, ly, lz) {
+        return Err(Refusal::Output);
     }
-    if lists::columns_differ(t0.len(), lx, ly, lz) {
-        return refusal::OUTPUT_LENGTH;
-    }
-    0
+    Ok(())
 }
 
 // The current density on each panel of a mesh, for the nodal values s.
 pub fn triangle_mesh_current_density(
-    x: &[f64],
-    y: &[f64],
-    z: &[f64],
-    t0: &[usize],
-    t1: &[usize],
-    t2: &[usize],
+    mesh: &TriangleMeshView,
     s: &[f64],
     jx: &mut [f64],
     jy: &mut [f64],
     jz: &mut [f64],
-) -> u32
-    ensures { Densities (passed_mesh x y z t0 t1 t2) s.now jx.old jy.old jz.old result jx.new jy.new jz.new }
+) -> Result<(), Refusal>
+    ensures { Densities (viewed mesh.now) s.now jx.old jy.old jz.old (number_of result) jx.new jy.new jz.new }
 {
-    let refusal = density_refusal(x, y, z, t0, t1, t2, s.len(), jx.len(), jy.len(), jz.len());
-    if refusal != 0 {
-        return refusal;
-    }
-    fill_densities(x, y, z, t0, t1, t2, s, jx, jy, jz);
-    0
+    check_density(mesh, s.len(), jx.len(), jy.len(), jz.len())?;
+    fill_densities(mesh, s, jx, jy, jz);
+    Ok(())
 }

@@ -2,12 +2,14 @@
 ghost use Rattle.std.specs.Prelude.{◌≡◌};
 ghost use Rattle.boundary_element.specs.Identity as Spec;
 
+#[tactic(auto, unfolding(crate::specs::Identity::points_match))]
 pub fn points_match(a: [f64; 3], b: [f64; 3]) -> bool
     ensures { result ≡ Spec.points_match a b }
 {
     math::norm3(math::sub3(a, b)) < 1e-12
 }
 
+#[tactic(auto, unfolding(crate::specs::Identity::matches_corner))]
 fn matches_corner(p: [f64; 3], t: [[f64; 3]; 3]) -> bool
     ensures { result ≡ Spec.matches_corner p t }
 {
@@ -15,6 +17,7 @@ fn matches_corner(p: [f64; 3], t: [[f64; 3]; 3]) -> bool
 }
 
 // Every source corner matches some target corner: one way only.
+#[tactic(auto, unfolding(crate::specs::Identity::triangles_identical))]
 pub fn triangles_identical(source: [[f64; 3]; 3], target: [[f64; 3]; 3]) -> bool
     ensures { result ≡ Spec.triangles_identical source target }
 {

@@ -12,8 +12,8 @@ use Rattle.binary64.specs.Binary64.{at, plus_zero}
 use Rattle.tri.specs.Mapping.{Tri}
 use Rattle.tri.specs.Quadrature.{quadrature_rule, NoSuchRule, is_unknown}
 use Rattle.tri.specs.declared.quadrature.QuadratureKind.{QuadratureKind}
-use Rattle.tri.specs.declared.quadrature.Rule.{Rule}
-use Rattle.tri.specs.declared.quadrature.Rule.TheVariants.{Known, Unknown}
+use Rattle.tri.specs.Quadrature.{Rule}
+use Rattle.std.specs.Prelude.{Some, None}
 use Rattle.tri.proofs.Rules.{rule_off, rule_on}
 use Rattle.refusal.specs.Numbers.{no_such_choice}
 use Rattle.coupling.specs.Coupling.{geometric_coupling, geometric_coupling_regular}
@@ -38,13 +38,13 @@ settled t P on off = record { is_12 = (λ e. on.0 (told t e), λ h. rw (on.1 h))
 -- ---- the number of an answer
 answer_number : (r : Rule) (f : QuadratureKind → Float) → (answer_of r f).refusal ≡ pick (is_unknown r)
 unfolding answer_of refused
-answer_number (Known kind) f = refl
-answer_number Unknown f = refl
+answer_number (Some kind) f = refl
+answer_number None f = refl
 
 block_number : (r : Rule) (s t : Tri) → (block_of r s t).refusal ≡ pick (is_unknown r)
 unfolding block_of
-block_number (Known kind) s t = refl
-block_number Unknown s t = refl
+block_number (Some kind) s t = refl
+block_number None s t = refl
 
 by_rule : (rule : ℕ) → ChoiceNumbered (NoSuchRule rule) (pick (is_unknown (quadrature_rule rule)))
 by_rule rule = settled (is_unknown (quadrature_rule rule)) (NoSuchRule rule) (rule_on rule) (rule_off rule)

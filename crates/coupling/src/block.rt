@@ -7,6 +7,7 @@ use boundary_element::current_density::triangle_basis_current_densities;
 use tri::quadrature::QuadratureKind;
 
 // The entry of two corners, of the geometric coupling g and their densities.
+#[tactic(auto, unfolding(crate::specs::Block::entry))]
 fn entry(g: f64, ksrc: [f64; 3], ktgt: [f64; 3]) -> f64
     ensures { result ≡ Spec.entry g ksrc ktgt }
 {
@@ -14,6 +15,7 @@ fn entry(g: f64, ksrc: [f64; 3], ktgt: [f64; 3]) -> f64
 }
 
 // The entries of one source corner.
+#[tactic(auto, unfolding(crate::specs::Block::block_row))]
 fn block_row(g: f64, ksrc: [f64; 3], ktgt: [[f64; 3]; 3]) -> [f64; 3]
     ensures { result ≡ Spec.block_row g ksrc ktgt }
 {
@@ -25,6 +27,7 @@ fn block_row(g: f64, ksrc: [f64; 3], ktgt: [[f64; 3]; 3]) -> [f64; 3]
 }
 
 // The block of the geometric coupling g and the densities of source and target.
+#[tactic(auto, unfolding(crate::specs::Block::block_from_coupling, crate::specs::Block::block_row))]
 pub fn block_from_coupling(g: f64, ksrc: [[f64; 3]; 3], ktgt: [[f64; 3]; 3]) -> [f64; 9]
     ensures { result ≡ Spec.block_from_coupling g ksrc ktgt }
 {
@@ -35,6 +38,7 @@ pub fn block_from_coupling(g: f64, ksrc: [[f64; 3]; 3], ktgt: [[f64; 3]; 3]) -> 
 }
 
 // triangle_basis_mutual_inductance_block in the Rust, in henries.
+#[tactic(auto, unfolding(crate::specs::Block::mutual_inductance_block))]
 pub fn mutual_inductance_block(
     kind: QuadratureKind,
     source: [[f64; 3]; 3],
@@ -49,6 +53,7 @@ pub fn mutual_inductance_block(
 }
 
 // The block m between the potentials s of the source and t of the target; it takes any numbers.
+#[tactic(auto, unfolding(crate::specs::Block::inductance_from_potential_vectors))]
 pub fn triangle_inductance_from_potential_vectors(m: [f64; 9], s: [f64; 3], t: [f64; 3]) -> f64
     ensures { result ≡ Spec.inductance_from_potential_vectors m s t }
 {

@@ -1,106 +1,77 @@
-// Document 01's calls on two triangles. The rule is its number, a corner an index; 12 answers any other, with +0 for every value.
+// Document 01's calls on two triangles. The rule is its number, a corner an index; any other is no such choice.
 ghost use Rattle.std.specs.Prelude.{◌≡◌};
 ghost use Rattle.coupling.specs.Calls as Spec;
 
 use crate::block::mutual_inductance_block;
 use crate::coupling::{geometric_coupling, geometric_coupling_regular};
-use refusal::Answer;
-use tri::quadrature::{Rule, quadrature_rule};
-
-#[derive(Clone, Copy)]
-pub struct BlockAnswer {
-    pub refusal: u32,
-    pub values: [f64; 9],
-}
-
-// No such choice.
-fn refused() -> Answer
-    ensures { result ≡ Spec.refused }
-{
-    Answer {
-        refusal: refusal::NO_SUCH_CHOICE,
-        value: 0.0,
-    }
-}
+use refusal::Refusal;
+use tri::quadrature::quadrature_rule;
 
 // Geometric coupling in cubic metres.
+#[tactic(auto, unfolding(crate::specs::Calls::triangle_geometric_coupling, crate::specs::Calls::answer_of, crate::specs::Calls::refused))]
 pub fn triangle_geometric_coupling(
     rule: u32,
     source: [[f64; 3]; 3],
     target: [[f64; 3]; 3],
-) -> Answer
-    ensures { result ≡ Spec.triangle_geometric_coupling rule source target }
+) -> Result<f64, Refusal>
+    ensures { Spec.answered result ≡ Spec.triangle_geometric_coupling rule source target }
 {
-    match quadrature_rule(rule) {
-        Rule::Known(kind) => Answer {
-            refusal: 0,
-            value: geometric_coupling(kind, source, target),
-        },
-        Rule::Unknown => refused(),
-    }
+    let Some(kind) = quadrature_rule(rule) else {
+        return Err(Refusal::NoSuchChoice);
+    };
+    Ok(geometric_coupling(kind, source, target))
 }
 
 // The far rule's coupling from source to target, whatever the distance.
+#[tactic(auto, unfolding(crate::specs::Calls::triangle_geometric_coupling_regular, crate::specs::Calls::answer_of, crate::specs::Calls::refused))]
 pub fn triangle_geometric_coupling_regular(
     rule: u32,
     source: [[f64; 3]; 3],
     target: [[f64; 3]; 3],
-) -> Answer
-    ensures { result ≡ Spec.triangle_geometric_coupling_regular rule source target }
+) -> Result<f64, Refusal>
+    ensures { Spec.answered result ≡ Spec.triangle_geometric_coupling_regular rule source target }
 {
-    match quadrature_rule(rule) {
-        Rule::Known(kind) => Answer {
-            refusal: 0,
-            value: geometric_coupling_regular(kind, source, target),
-        },
-        Rule::Unknown => refused(),
-    }
+    let Some(kind) = quadrature_rule(rule) else {
+        return Err(Refusal::NoSuchChoice);
+    };
+    Ok(geometric_coupling_regular(kind, source, target))
 }
 
 // The mutual inductance of each source corner and each target corner, in henries, row by row.
+#[tactic(auto, unfolding(crate::specs::Calls::triangle_basis_mutual_inductance_block, crate::specs::Calls::block_of))]
 pub fn triangle_basis_mutual_inductance_block(
     rule: u32,
     source: [[f64; 3]; 3],
     target: [[f64; 3]; 3],
-) -> BlockAnswer
-    ensures { result ≡ Spec.triangle_basis_mutual_inductance_block rule source target }
+) -> Result<[f64; 9], Refusal>
+    ensures { Spec.block_answered result ≡ Spec.triangle_basis_mutual_inductance_block rule source target }
 {
-    match quadrature_rule(rule) {
-        Rule::Known(kind) => BlockAnswer {
-            refusal: 0,
-            values: mutual_inductance_block(kind, source, target),
-        },
-        Rule::Unknown => BlockAnswer {
-            refusal: refusal::NO_SUCH_CHOICE,
-            values: [0.0; 9],
-        },
-    }
+    let Some(kind) = quadrature_rule(rule) else {
+        return Err(Refusal::NoSuchChoice);
+    };
+    Ok(mutual_inductance_block(kind, source, target))
 }
 
 // The entry of source corner i and target corner j.
+#[tactic(auto, unfolding(crate::specs::Calls::triangle_basis_mutual_inductance, crate::specs::Calls::answer_of, crate::specs::Calls::refused))]
 pub fn triangle_basis_mutual_inductance(
     rule: u32,
     source: [[f64; 3]; 3],
     i: usize,
     target: [[f64; 3]; 3],
     j: usize,
-) -> Answer
-    ensures { result ≡ Spec.triangle_basis_mutual_inductance rule source i target j }
+) -> Result<f64, Refusal>
+    ensures { Spec.answered result ≡ Spec.triangle_basis_mutual_inductance rule source i target j }
 {
     if i > 2 {
-        return refused();
+        return Err(Refusal::NoSuchChoice);
     }
     if j > 2 {
-        return refused();
+        return Err(Refusal::NoSuchChoice);
     }
-    match quadrature_rule(rule) {
-        Rule::Known(kind) => {
-            let values = mutual_inductance_block(kind, source, target);
-            Answer {
-                refusal: 0,
-                value: values[i * 3 + j],
-            }
-        }
-        Rule::Unknown => refused(),
-    }
+    let Some(kind) = quadrature_rule(rule) else {
+        return Err(Refusal::NoSuchChoice);
+    };
+    let values = mutual_inductance_block(kind, source, target);
+    Ok(values[i * 3 + j])
 }

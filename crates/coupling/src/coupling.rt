@@ -6,7 +6,7 @@ use panel_distance::bisection::longest_edge_bisection;
 use panel_distance::distance::{
     triangle_aabb_distance_squared, triangle_distance_squared, triangle_max_edge_squared,
 };
-use panel_points::{coordinates, points_by, rows_of, weighted};
+use panel_points::{points_by, rows_of, weighted};
 use potential::UniformTriangle;
 use potential_lanes::scalar_potentials;
 use tri::mapping::{area, map_point};
@@ -16,6 +16,7 @@ pub const COUPLING_NEAR_SUBDIVISION_DEPTH: usize = 2;
 
 // ---- the far rule
 // A row's part of the potential at obs.
+#[tactic(auto, unfolding(crate::specs::Coupling::potential_row))]
 fn potential_row(source: [[f64; 3]; 3], area: f64, obs: [f64; 3], q: [f64; 3]) -> f64
     ensures { result ≡ Spec.potential_row source area obs q }
 {
@@ -33,15 +34,15 @@ fn triangle_scalar_potential_regular(
     ensures { result ≡ Spec.triangle_scalar_potential_regular kind source obs }
 {
     let source_area = area(source);
-    let count = quadrature_count(kind);
     let mut out = 0.0;
-    for k in 0..count {
+    for k in 0..quadrature_count(kind) {
         out += potential_row(source, source_area, obs, quadrature_row(kind, k));
     }
     out
 }
 
 // A row's part of the directed coupling.
+#[tactic(auto, unfolding(crate::specs::Coupling::integral_row))]
 fn regular_row(
     kind: QuadratureKind,
     source: [[f64; 3]; 3],
@@ -64,15 +65,15 @@ pub fn geometric_coupling_regular(
     ensures { result ≡ Spec.geometric_coupling_regular kind source target }
 {
     let target_area = area(target);
-    let count = quadrature_count(kind);
     let mut out = 0.0;
-    for k in 0..count {
+    for k in 0..quadrature_count(kind) {
         out += regular_row(kind, source, target, target_area, quadrature_row(kind, k));
     }
     out
 }
 
 // Half the sum of the two directions.
+#[tactic(auto, unfolding(crate::specs::Coupling::triangle_geometric_coupling_regular_symmetric))]
 fn triangle_geometric_coupling_regular_symmetric(
     kind: QuadratureKind,
     source: [[f64; 3]; 3],
@@ -93,16 +94,9 @@ fn triangle_geometric_coupling_exact_directed(
 ) -> f64
     ensures { result ≡ Spec.triangle_geometric_coupling_exact_directed source target kind }
 {
-    let points = points_by(rows_of(kind), coordinates(target), area(target));
-    let x = points.x;
-    let y = points.y;
-    let z = points.z;
-    let w = points.w;
-    weighted(
-        quadrature_count(kind),
-        w,
-        scalar_potentials(source, x, y, z),
-    )
+    let places = points_by(&rows_of(kind), target, area(target));
+    let potentials = scalar_potentials(&source, &places.points);
+    weighted(quadrature_count(kind), places.weight, potentials)
 }
 
 // The target halved depth times, each leaf by the rule of seven points.
@@ -127,6 +121,7 @@ pub fn triangle_geometric_coupling_exact_fixed(
 
 // ---- which rule
 // Whether the far rule holds; at equal distance it does not.
+#[tactic(auto, unfolding(crate::specs::Coupling::is_far))]
 pub fn is_far(source: [[f64; 3]; 3], target: [[f64; 3]; 3]) -> bool
     ensures { result ≡ Spec.is_far source target }
 {
@@ -143,6 +138,7 @@ pub fn is_far(source: [[f64; 3]; 3], target: [[f64; 3]; 3]) -> bool
 }
 
 // triangle_geometric_coupling in the Rust.
+#[tactic(auto, unfolding(crate::specs::Coupling::geometric_coupling))]
 pub fn geometric_coupling(kind: QuadratureKind, source: [[f64; 3]; 3], target: [[f64; 3]; 3]) -> f64
     ensures { result ≡ Spec.geometric_coupling kind source target }
 {

@@ -1,6 +1,5 @@
 -- What an accepted input holds: counts within the limits, its fields within its bytes, indices below the node count, and a value for each node. Assumes nothing.
 use mathlib.Core.Path.{◌≡◌, sym, ap, ◌∙◌}
-use mathlib.Core.Bool.{Bool, true, false, cond}
 use mathlib.Core.List.{List}
 use Prim.Native.Nat.{ℕ, ◌≤◌, ◌<◌}
 use native.Mathlib.Nat.{one-mul}
@@ -10,36 +9,29 @@ use lib.ListN.{length, get_or}
 use lib.Ieee.{nan}
 use Rattle.binary64.specs.Binary64.{at}
 use Rattle.lists.proofs.Filling.{tabulate_get}
-use Rattle.refusal.specs.Checks.{first}
-use Rattle.mesh.specs.Mesh.{triangle_indices, passes_limits, some_misses_node, some_zero_area}
-use Rattle.panel_file.specs.PanelFile.{value_place, length_due, node_count, panel_count, nodal_value, decode, marks_differ, length_differs, file_checks, file_refusal, Holds, IndicesBelow}
+use Rattle.refusal.specs.Outcome.{number}
+use Rattle.refusal.specs.declared.Refusal.{Refusal}
+use Rattle.refusal.proofs.Outcome.{never_0}
+use Rattle.mesh.specs.Mesh.{triangle_indices}
+use Rattle.panel_file.specs.PanelFile.{value_place, length_due, node_count, panel_count, nodal_value, decode, Holds, IndicesBelow}
 use Rattle.panel_file.specs.Conditions.{AcceptedFile}
 use Rattle.panel_file.proofs.Refusals as File
 use Rattle.panel_file.proofs.Accepted as Tests
 use Rattle.panel_file.proofs.Decoded as Decoded
 use Rattle.density_text.specs.Text.{max_nodes, max_panels, input_refusal, refused_line, densities, text, nodal_values, Input}
 
--- ---- the numbers of a file have two digits at most
-pub small : (n p extra : ℕ) (b : List ℕ) → file_refusal n p extra b < 1000
-unfolding file_refusal file_checks first
-small n p extra b = go (marks_differ b) (passes_limits n p (node_count b) (panel_count b)) (length_differs extra b) (some_misses_node (decode b)) (some_zero_area (decode b))
-  where
-    go : (s t u v w : Bool) → cond s 14 (cond t 11 (cond u 15 (cond v 3 (cond w 4 0)))) < 1000
-    go true t u v w = omega arith
-    go false true u v w = omega arith
-    go false false true v w = omega arith
-    go false false false true w = omega arith
-    go false false false false true = omega arith
-    go false false false false false = omega arith
-
 -- ---- which text
-pub text-refused : (b : List ℕ) (r : ℕ) → r ≡ input_refusal b → (r ≡ 0 → ⊥) → refused_line r ≡ text b
+pub text-refused : (b : List ℕ) (r : Refusal) → number r ≡ input_refusal b → refused_line (number r) ≡ text b
 unfolding text
-text-refused b r e h = let n = ne_eqb (input_refusal b) 0 (λ z. h (e ∙ z)) in rw (n, e)
+text-refused b r e = let n = ne_eqb (input_refusal b) 0 (λ z. never_0 r (e ∙ z)) in rw (n, e)
 
-pub text-accepted : (b : List ℕ) → input_refusal b ≡ 0 → densities b ≡ text b
+pub text-accepted : (b : List ℕ) → 0 ≡ input_refusal b → densities b ≡ text b
 unfolding text
-text-accepted b e = rw e
+text-accepted b e = rw (← e)
+
+-- a file that was accepted, of the bytes read
+pub input_of : {n p : ℕ} {a b : List ℕ} → n ≡ node_count a → p ≡ panel_count a → a ≡ b → 0 ≡ input_refusal b → Input n p a
+input_of e f g h = record { nodes = e; panels = f; accepted = ap input_refusal g ∙ sym h }
 
 -- ---- of an accepted input
 module _ (n p : ℕ) (b : List ℕ) (input : Input n p b) where

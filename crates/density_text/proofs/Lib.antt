@@ -1,4 +1,3 @@
-pub mod Counted
 pub mod Numerals
 pub mod Inputs
 pub mod Examples

@@ -13,6 +13,9 @@ use lib.ListN.{length, length-append}
 use Rattle.binary64.specs.Binary64.{at}
 use Rattle.io.specs.Digits.{last_digits, IsDigitCount}
 use Rattle.ieee754.specs.Ieee754.{canonical_bits}
+use Rattle.refusal.specs.Outcome.{number}
+use Rattle.refusal.specs.declared.Refusal.{Refusal}
+use Rattle.refusal.specs.declared.Refusal.TheVariants as R
 use Rattle.density_text.specs.Text.{decimal, field, line, first_line}
 
 -- the places of a number below 1,000
@@ -71,9 +74,9 @@ sixteen n k h f = go (ltb 16 k) refl
         let j : 16 ≤ k - 1 = omega arith in
         absurd (least (le_trans (pow-le-pow_right p j) (f.2 l)))
 
-pub field-length : (x : Float) → length (field x) ≡ 17
+pub field_length : (x : Float) → length (field x) ≡ 17
 unfolding field
-field-length x = ap suc (digits-length 16 16 (canonical_bits x))
+field_length x = ap suc (digits-length 16 16 (canonical_bits x))
 
 pub line_short : (i : ℕ) (j : List Float) → length (line i j) ≤ 55
 unfolding line
@@ -82,7 +85,7 @@ line_short i j =
     let y = field (at j 1) in
     let z = field (at j 2) in
     omega
-    (arith, length-append (decimal i) (x ++ (y ++ (z ++ (10 ∷ [])))), length-append x (y ++ (z ++ (10 ∷ []))), length-append y (z ++ (10 ∷ [])), length-append z (10 ∷ []), decimal_short i, field-length (at j 0), field-length (at j 1), field-length (at j 2))
+    (arith, length-append (decimal i) (x ++ (y ++ (z ++ (10 ∷ [])))), length-append x (y ++ (z ++ (10 ∷ []))), length-append y (z ++ (10 ∷ [])), length-append z (10 ∷ []), decimal_short i, field_length (at j 0), field_length (at j 1), field_length (at j 2))
 
 pub first_short : (n p : ℕ) → length (first_line n p) ≤ 14
 unfolding first_line
@@ -90,3 +93,25 @@ first_short n p =
     let y = (32 ∷ []) ++ (decimal p ++ (10 ∷ [])) in
     omega
     (arith, length-append (80 ∷ 78 ∷ 76 ∷ 32 ∷ 49 ∷ 32 ∷ []) (decimal n ++ y), length-append (decimal n) y, length-append (32 ∷ []) (decimal p ++ (10 ∷ [])), length-append (decimal p) (10 ∷ []), decimal_short n, decimal_short p)
+
+-- ---- the number of a refusal has two digits at most
+pub refusal_short : (r : Refusal) → number r < 1000
+refusal_short R.NodeColumns = omega arith
+refusal_short R.PanelColumns = omega arith
+refusal_short R.MissingNode = omega arith
+refusal_short R.ZeroArea = omega arith
+refusal_short R.NodalValues = omega arith
+refusal_short R.Output = omega arith
+refusal_short R.Matrix = omega arith
+refusal_short R.Coefficients = omega arith
+refusal_short R.Map = omega arith
+refusal_short R.Flux = omega arith
+refusal_short R.TooLarge = omega arith
+refusal_short R.NoSuchChoice = omega arith
+refusal_short R.NoSuchNode = omega arith
+refusal_short R.Mark = omega arith
+refusal_short R.FileLength = omega arith
+refusal_short R.Display = omega arith
+refusal_short R.UnknownName = omega arith
+refusal_short R.NoPlace = omega arith
+refusal_short R.NotFinite = omega arith

@@ -2,6 +2,8 @@
 #![tactic(auto)]
 
 ghost use Rattle.std.specs.Prelude.{◌≡◌, ◌+◌, ◌*◌, ◌≤◌, ◌<◌, length};
+ghost use Rattle.binary64.specs.Binary64.{at};
+ghost use Rattle.refusal.specs.Outcome.{number};
 ghost use Rattle.lists.specs.Putting.{Put};
 ghost use Rattle.io.specs.Counts.{IsPrefixLen};
 ghost use Rattle.boundary_element.specs.CurrentDensity.{panel_density};
@@ -11,6 +13,8 @@ ghost use Rattle.density_text.specs.Text as Spec;
 ghost use Rattle.density_text.specs.Text.{Input};
 
 use lists::put;
+use panel_file::file::PanelFile;
+use refusal::Refusal;
 
 // Document 01's limits of the program.
 const MAX_NODES: usize = 64;
@@ -38,20 +42,30 @@ fn put_field(out: &mut [u8], from: usize, x: f64) -> usize
     put(out, to, &digits[..k])
 }
 
-// The density of panel i of an accepted input.
-fn density(bytes: &[u8], n: usize, p: usize, i: usize) -> [f64; 3]
-    requires { Input n p bytes.now × (i < p) }
-    ensures { result ≡ panel_density (decode bytes.now) (Spec.nodal_values bytes.now) i }
+// The value of node k of an accepted input.
+fn nodal_value(input: &PanelFile, k: usize) -> f64
+    requires { Input input.now.nodes input.now.panels input.now.bytes.now × (k < input.now.nodes) }
+    ensures { result ≡ at (Spec.nodal_values input.now.bytes.now) k }
 {
-    let t = panel_file::triangle_nodes(bytes, n, i);
-    let k = panel_file::triangle_indices(bytes, n, i);
-    let a = panel_file::nodal_value(bytes, n, p, k[0]);
-    let b = panel_file::nodal_value(bytes, n, p, k[1]);
-    let c = panel_file::nodal_value(bytes, n, p, k[2]);
-    boundary_element::current_density::triangle_current_density(t, [a, b, c])
+    panel_file::nodal_value(input.bytes, input.nodes, input.panels, k)
+}
+
+// The density of panel i of an accepted input.
+fn density(input: &PanelFile, i: usize) -> [f64; 3]
+    requires { Input input.now.nodes input.now.panels input.now.bytes.now × (i < input.now.panels) }
+    ensures { result ≡ panel_density (decode input.now.bytes.now) (Spec.nodal_values input.now.bytes.now) i }
+{
+    let [a, b, c] = input.triangle_indices(i);
+    let values = [
+        nodal_value(input, a),
+        nodal_value(input, b),
+        nodal_value(input, c),
+    ];
+    boundary_element::current_density::triangle_current_density(input.triangle_nodes(i), values)
 }
 
 // A panel's line, of at most 55 bytes.
+#[tactic(auto, using(crate::proofs::Numerals::decimal_short, crate::proofs::Numerals::field_length))]
 fn put_panel(out: &mut [u8], from: usize, i: usize, j: [f64; 3]) -> usize
     requires { (i < 1000) × (from + 55 ≤ length out.old) }
     ensures { Put out.old from (Spec.line i j) out.new result }
@@ -64,30 +78,30 @@ fn put_panel(out: &mut [u8], from: usize, i: usize, j: [f64; 3]) -> usize
 }
 
 // Every panel's line.
-fn put_panels(out: &mut [u8], from: usize, bytes: &[u8], n: usize, p: usize) -> usize
-    requires { Input n p bytes.now × (p ≤ 128) × (from + p * 55 ≤ length out.old) }
-    ensures { Put out.old from (rows_from (Spec.panel_line bytes.now) 0 p) out.new result }
+fn put_panels(out: &mut [u8], from: usize, input: &PanelFile) -> usize
+    requires { Input input.now.nodes input.now.panels input.now.bytes.now × (from + input.now.panels * 55 ≤ length out.old) }
+    ensures { Put out.old from (rows_from (Spec.panel_line input.now.bytes.now) 0 input.now.panels) out.new result }
 {
     let mut to = from;
-    let mut i = 0;
-    while i < p {
-        to = put_panel(out, to, i, density(bytes, n, p, i));
-        i += 1;
+    for i in 0..input.panels {
+        to = put_panel(out, to, i, density(input, i));
     }
     to
 }
 
 // The line of a refusal.
-fn put_refused(out: &mut [u8], refusal: u32) -> usize
-    requires { (refusal < 1000) × (12 ≤ length out.old) }
-    ensures { Put out.old 0 (Spec.refused_line refusal) out.new result }
+#[tactic(auto, using(crate::proofs::Numerals::decimal_short, crate::proofs::Numerals::refusal_short))]
+fn put_refused(out: &mut [u8], refusal: Refusal) -> usize
+    requires { 12 ≤ length out.old }
+    ensures { Put out.old 0 (Spec.refused_line (number refusal)) out.new result }
 {
     let a = put(out, 0, b"refused ");
-    let b = put_decimal(out, a, refusal as usize);
+    let b = put_decimal(out, a, refusal.number() as usize);
     put(out, b, b"\n")
 }
 
 // Line one, of at most 14 bytes.
+#[tactic(auto, using(crate::proofs::Numerals::decimal_short, crate::proofs::Numerals::field_length))]
 fn put_first(out: &mut [u8], n: usize, p: usize) -> usize
     requires { (n < 1000) × (p < 1000) × (14 ≤ length out.old) }
     ensures { Put out.old 0 (Spec.first_line n p) out.new result }
@@ -106,12 +120,11 @@ pub fn density_text(bytes: &[u8], out: &mut [u8]) -> usize
     ensures put { Put out.old 0 (Spec.text bytes.now) out.new result }
     ensures prefix_len { IsPrefixLen result out.new }
 {
-    let refusal = panel_file::file_refusal(MAX_NODES, MAX_PANELS, 1, bytes);
-    if refusal != 0 {
-        return put_refused(out, refusal);
+    match panel_file::check_file(MAX_NODES, MAX_PANELS, 1, bytes) {
+        Err(refusal) => put_refused(out, refusal),
+        Ok(input) => {
+            let to = put_first(out, input.nodes, input.panels);
+            put_panels(out, to, &input)
+        }
     }
-    let n = panel_file::node_count(bytes);
-    let p = panel_file::panel_count(bytes);
-    let to = put_first(out, n, p);
-    put_panels(out, to, bytes, n, p)
 }

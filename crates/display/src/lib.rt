@@ -2,10 +2,13 @@
 // to the even one.
 #![tactic(auto)]
 
-ghost use Rattle.std.specs.Prelude.{◌≡◌, ◌*◌, ◌^◌, ◌≤◌, ◌<◌};
+ghost use Rattle.std.specs.Prelude.{◌≡◌, ◌*◌, ◌^◌, ◌≤◌, ◌<◌, pos};
 ghost use Rattle.fused_integer.specs.Jam.{Jam};
 ghost use Rattle.display.specs.Display as Spec;
+ghost use Rattle.refusal.specs.Outcome.{number_of, value_or};
 ghost use Rattle.display.specs.Display.{nano, largest, Displayed};
+
+use refusal::Refusal;
 
 const NANO: u64 = 1_000_000_000;
 
@@ -54,50 +57,29 @@ fn with_sign(negative: bool, size: u64) -> i64
     ensures { result ≡ Spec.with_sign negative size }
 {
     if negative {
-        0 - (size as i64)
+        -(size as i64)
     } else {
         size as i64
     }
 }
 
-// The answer: the number, and the whole nanohenries, 0 on a refusal.
-#[derive(Clone, Copy)]
-pub struct Shown {
-    pub refusal: u32,
-    pub value: i64,
-}
-
-pub fn display(x: f64) -> Shown
-    ensures { Displayed x result.refusal result.value }
+// The display value of x.
+pub fn display(x: f64) -> Result<i64, Refusal>
+    ensures { Displayed x (number_of result) (value_or (pos 0) result) }
 {
     if ieee754::is_nan(x) {
-        return Shown {
-            refusal: refusal::DISPLAY_RANGE,
-            value: 0,
-        };
+        return Err(Refusal::Display);
     }
     let b = f64::to_bits(ieee754::abs(x));
     if b >= TOO_LARGE {
-        return Shown {
-            refusal: refusal::DISPLAY_RANGE,
-            value: 0,
-        };
+        return Err(Refusal::Display);
     }
     if b < TOO_SMALL {
-        return Shown {
-            refusal: 0,
-            value: 0,
-        };
+        return Ok(0);
     }
     let size = nanohenries(binary64::significand(b), binary64::exponent(b));
     if LARGEST < size {
-        return Shown {
-            refusal: refusal::DISPLAY_RANGE,
-            value: 0,
-        };
+        return Err(Refusal::Display);
     }
-    Shown {
-        refusal: 0,
-        value: with_sign(ieee754::is_sign_negative(x), size),
-    }
+    Ok(with_sign(ieee754::is_sign_negative(x), size))
 }

@@ -49,8 +49,8 @@ fn horner_sum(z: f64) -> f64
 {
     let c = RECIPROCALS;
     let mut p = c[11];
-    for i in 12..23usize {
-        p = c[i] + z * p;
+    for k in &c[12..] {
+        p = *k + z * p;
     }
     p
 }
@@ -61,13 +61,14 @@ fn horner_difference(z: f64) -> f64
 {
     let c = RECIPROCALS;
     let mut p = c[0];
-    for i in 1..23usize {
-        p = c[i] - z * p;
+    for k in &c[1..] {
+        p = *k - z * p;
     }
     p
 }
 
 // (t + t) × P(t × t)
+#[tactic(auto, unfolding(crate::specs::Elementary::twice_artanh))]
 pub fn twice_artanh(t: f64) -> f64
     ensures { result ≡ Spec.twice_artanh t }
 {
@@ -75,6 +76,7 @@ pub fn twice_artanh(t: f64) -> f64
 }
 
 // The whole number e - 1074 as a float: e has at most 12 digits, so both steps are exact.
+#[tactic(auto, using(crate::proofs::Exponent::exponent_steps))]
 fn float_exponent(e: u64) -> f64
     requires { e ≤ 2098 }
     ensures { result ≡ of_int binary64 (sub_ℕ e 1074) }
@@ -82,6 +84,7 @@ fn float_exponent(e: u64) -> f64
     (e as u32) as f64 - 1074.0
 }
 
+#[tactic(auto, unfolding(crate::specs::Elementary::ln_at))]
 fn ln_at(m: f64, e: f64) -> f64
     ensures { result ≡ Spec.ln_at m e }
 {
@@ -91,6 +94,7 @@ fn ln_at(m: f64, e: f64) -> f64
 
 // The logarithm of a pattern that is finite and above zero. Its digits, shifted up by their leading
 // zero bits, are those of m; e + 1074 is their place.
+#[tactic(auto, using(binary64::proofs::Pattern::no_nan))]
 fn ln_of_bits(b: u64) -> f64
     requires { (0 < b) × (b < 0x7ff0_0000_0000_0000) }
     ensures { result ≡ Spec.ln_reduced (Spec.mantissa (of_bits binary64 b)) (Spec.exponent (of_bits binary64 b)) }
@@ -105,6 +109,7 @@ fn ln_of_bits(b: u64) -> f64
     ln_at(m, float_exponent(e))
 }
 
+#[tactic(auto, using(ieee754::proofs::Signs::no_nan), unfolding(crate::specs::Elementary::ln))]
 pub fn ln(x: f64) -> f64
     ensures { result ≡ Spec.ln x }
 {
@@ -125,6 +130,7 @@ pub fn ln(x: f64) -> f64
 }
 
 // ln(1 + w), for w not below zero
+#[tactic(auto, unfolding(crate::specs::Elementary::ln1p))]
 fn ln_1p(w: f64) -> f64
     ensures { result ≡ Spec.ln1p w }
 {
@@ -134,6 +140,7 @@ fn ln_1p(w: f64) -> f64
     ln(1.0 + w)
 }
 
+#[tactic(auto, unfolding(crate::specs::Elementary::asinh_of_magnitude))]
 fn asinh_of_magnitude(a: f64) -> f64
     ensures { result ≡ Spec.asinh_of_magnitude a }
 {
@@ -143,6 +150,7 @@ fn asinh_of_magnitude(a: f64) -> f64
     ln_1p(a + (a * a) / (1.0 + ieee754::sqrt(a * a + 1.0)))
 }
 
+#[tactic(auto, unfolding(crate::specs::Elementary::asinh))]
 pub fn asinh(x: f64) -> f64
     ensures { result ≡ Spec.asinh x }
 {
@@ -160,6 +168,7 @@ pub fn asinh(x: f64) -> f64
 }
 
 // The smaller of two sizes over the larger.
+#[tactic(auto, unfolding(crate::specs::Elementary::ratio))]
 fn ratio(a: f64, b: f64) -> f64
     ensures { result ≡ Spec.ratio a b }
 {
@@ -173,6 +182,7 @@ fn ratio(a: f64, b: f64) -> f64
     if a > b { b / a } else { a / b }
 }
 
+#[tactic(auto, unfolding(crate::specs::Elementary::atan_at))]
 pub fn atan_at(b: f64, u: f64) -> f64
     ensures { result ≡ Spec.atan_at b u }
 {
@@ -180,6 +190,7 @@ pub fn atan_at(b: f64, u: f64) -> f64
 }
 
 // The arc tangent, for q from 0 to 1.
+#[tactic(auto, unfolding(crate::specs::Elementary::atan))]
 fn atan(q: f64) -> f64
     ensures { result ≡ Spec.atan q }
 {
@@ -190,6 +201,7 @@ fn atan(q: f64) -> f64
 }
 
 // The angle of (b, a), neither below zero.
+#[tactic(auto, unfolding(crate::specs::Elementary::first_quadrant))]
 fn first_quadrant(a: f64, b: f64) -> f64
     ensures { result ≡ Spec.first_quadrant a b }
 {
@@ -198,12 +210,14 @@ fn first_quadrant(a: f64, b: f64) -> f64
 }
 
 // π - r where s.
+#[tactic(auto, unfolding(crate::specs::Elementary::supplement))]
 pub fn supplement(s: bool, r: f64) -> f64
     ensures { result ≡ Spec.supplement s r }
 {
     if s { PI - r } else { r }
 }
 
+#[tactic(auto, unfolding(crate::specs::Elementary::atan2))]
 pub fn atan2(y: f64, x: f64) -> f64
     ensures { result ≡ Spec.atan2 y x }
 {

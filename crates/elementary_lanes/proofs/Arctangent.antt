@@ -15,10 +15,10 @@ pub one_quotient : (steep : Bool) (a b : Float) → cond steep b a ⊘ cond stee
 one_quotient true a b = refl
 one_quotient false a b = refl
 
-pub one-angle : (high : Bool) (q : Float)
+pub one_angle : (high : Bool) (q : Float)
     → atan_at (cond high (π ⊘ four) plus_zero) (cond high ((q ⊖ one) ⊘ (q ⊕ one)) q) ≡ cond high (atan_at (π ⊘ four) ((q ⊖ one) ⊘ (q ⊕ one))) (atan_at plus_zero q)
-one-angle true q = refl
-one-angle false q = refl
+one_angle true q = refl
+one_angle false q = refl
 
 quadrant_is : (a b : Float) → T (positive a) → first_quadrant a b ≡ Spec.first_quadrant a b
 unfolding first_quadrant Spec.first_quadrant ratio

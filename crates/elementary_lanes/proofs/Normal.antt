@@ -38,11 +38,11 @@ one_division false true w m f = ap (λ (e : ℤ). ln_at (m ⊗ half) (of_int bin
 one_division false false w m f = refl
 
 -- ---- tests
-pub reached-number : (y : Float) → le one y ≡ true → is_nan y ≡ false
+pub reached_number : (y : Float) → le one y ≡ true → is_nan y ≡ false
 unfolding le is_nan of_bits
-reached-number nan h = absurd (false≢true h)
-reached-number (inf s) h = refl
-reached-number (fin s m e) h = refl
+reached_number nan h = absurd (false≢true h)
+reached_number (inf s) h = refl
+reached_number (fin s m e) h = refl
 
 pub pattern_lt : (w : Float) → to_bits binary64 (from_one (one ⊕ w)) < 2 ^ 64
 unfolding from_one

@@ -1,10 +1,9 @@
 -- Inner form: what one lane of `asinhs` and of `atan2s` computes: asinh with the significand and the exponent read off a pattern, atan2 without its special cases, and NaN where they do not hold. Definitions only.
-use Rattle.std.specs.Prelude.{Bool, cond, ◌&&◌, List, ℕ, ◌+◌, ◌/◌, ◌%◌, ◌^◌, Float}
+use Rattle.std.specs.Prelude.{cond, ◌&&◌, ℕ, ◌+◌, ◌/◌, ◌%◌, ◌^◌, Float}
 use Rattle.std.proofs.Math.IntN.{sub_ℕ}
 use Rattle.std.specs.Float.{nan, binary64}
-use Rattle.std.specs.Float.Ieee.{to_bits, neg, lt, le, is_nan}
-use Rattle.binary64.specs.Binary64.{◌⊕◌, ◌⊖◌, ◌⊗◌, ◌⊘◌, bits, at, plus_zero, one, two, π}
-use Rattle.lists.specs.Counting.{some_below}
+use Rattle.std.specs.Float.Ieee.{to_bits, neg, lt, le}
+use Rattle.binary64.specs.Binary64.{◌⊕◌, ◌⊖◌, ◌⊗◌, ◌⊘◌, bits, plus_zero, one, two, π}
 use Rattle.elementary.specs.Elementary.{two_to28, C, twice_artanh, ln_reduced, atan, supplement}
 
 -- 2^−1022, 2^31 and 2^1023
@@ -57,7 +56,3 @@ angle y x =
     let b = magnitude x in
     let r = supplement (lt x plus_zero) (first_quadrant a b) in
     cond (le min_positive a && le a two_to1023 && le min_positive b && le b two_to1023) (cond (lt y plus_zero) (neg r) r) nan
-
--- one of the first n is NaN
-abbrev pub any_nan : ℕ → List Float → Bool
-any_nan n r = some_below (λ (i : ℕ). is_nan (at r i)) n

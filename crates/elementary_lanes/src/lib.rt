@@ -4,13 +4,12 @@
 #![tactic(auto)]
 
 ghost use Rattle.std.specs.Prelude.{cond, false, ◌≡◌, ℕ, ◌≤◌, ◌<◌};
+ghost use Rattle.std.specs.List.{list_any};
 ghost use Rattle.std.proofs.Math.IntN.{sub_ℕ};
 ghost use Rattle.std.specs.Float.{binary64};
 ghost use Rattle.std.specs.Float.Ieee.{of_int, is_nan, lt};
 ghost use Rattle.binary64.specs.Binary64.{at, ◌⊘◌};
-ghost use Rattle.ieee754.specs.Ieee754.{sqrt};
 ghost use Rattle.lists.specs.Filling.{Each};
-ghost use Rattle.square_root.specs.Estimate.{root_estimate};
 ghost use Rattle.elementary.specs.Elementary as Spec;
 ghost use Rattle.elementary_lanes.specs.Lanes as Lanes;
 
@@ -23,12 +22,14 @@ const MIN_POSITIVE: f64 = 2.2250738585072014e-308;
 const TWO_TO_1023: f64 = 8.98846567431158e307;
 
 // |x|, for x other than zero and NaN.
+#[tactic(auto, unfolding(crate::specs::Lanes::magnitude))]
 fn magnitude(x: f64) -> f64
     ensures { result ≡ Lanes.magnitude x }
 {
     select(x < 0.0, -x, x)
 }
 
+#[tactic(auto, unfolding(crate::specs::Lanes::radicand))]
 fn radicand(x: f64) -> f64
     ensures { result ≡ Lanes.radicand x }
 {
@@ -37,6 +38,7 @@ fn radicand(x: f64) -> f64
 }
 
 // w from the root q of the radicand.
+#[tactic(auto, unfolding(crate::specs::Lanes::excess))]
 fn excess(x: f64, q: f64) -> f64
     ensures { result ≡ Lanes.excess x q }
 {
@@ -50,6 +52,7 @@ fn excess(x: f64, q: f64) -> f64
 }
 
 // y, or 1 where y is less or NaN.
+#[tactic(auto, using(crate::proofs::Normal::reached_number), unfolding(crate::specs::Lanes::from_one))]
 fn from_one(y: f64) -> f64
     ensures value { result ≡ Lanes.from_one y }
     ensures result_value { is_nan result ≡ false }
@@ -58,6 +61,7 @@ fn from_one(y: f64) -> f64
 }
 
 // m of a normal number's pattern.
+#[tactic(auto, using(binary64::proofs::Pattern::no_nan), unfolding(crate::specs::Lanes::mantissa_of_bits))]
 fn mantissa_of_bits(b: u64) -> f64
     ensures { result ≡ Lanes.mantissa_of_bits b }
 {
@@ -65,6 +69,7 @@ fn mantissa_of_bits(b: u64) -> f64
 }
 
 // e of a normal number's exponent field, one more where m is halved.
+#[tactic(auto, using(elementary::proofs::Exponent::field_steps))]
 fn float_exponent(field: u64, halved: bool) -> f64
     requires { field ≤ 4095 }
     ensures { result ≡ of_int binary64 (sub_ℕ field (cond halved 1022 1023)) }
@@ -73,6 +78,7 @@ fn float_exponent(field: u64, halved: bool) -> f64
 }
 
 // ln(1 + w): the two quotients t of the definition are one division.
+#[tactic(auto, using(ieee754::proofs::Signs::no_nan, crate::proofs::Normal::one_division, crate::proofs::Normal::pattern_lt), unfolding(crate::specs::Lanes::ln1p, crate::specs::Lanes::ln_fields, elementary::specs::Elementary::ln_reduced))]
 fn ln_1p(w: f64) -> f64
     ensures { result ≡ Lanes.ln1p w }
 {
@@ -91,6 +97,7 @@ fn ln_1p(w: f64) -> f64
 }
 
 // asinh x, or NaN.
+#[tactic(auto, unfolding(crate::specs::Lanes::lane))]
 fn lane(x: f64, w: f64) -> f64
     ensures { result ≡ Lanes.lane x w }
 {
@@ -104,63 +111,15 @@ fn chosen(x: f64, r: f64) -> f64
     if ieee754::is_nan(r) { asinh(x) } else { r }
 }
 
-fn radicands(x: [f64; 14]) -> [f64; 14]
-    ensures { Each 14 (λ i. Lanes.radicand (at x i)) result }
+// f(0), f(1) and so on. The compiler makes a loop of its own for each f, and lays it out in lanes where f has no branch.
+#[tactic(auto, using(crate::proofs::Made::made_next, crate::proofs::Made::made_all))]
+fn each<const N: usize, F: Fn(usize) -> f64>(f: F) -> [f64; N]
+    requires { (i : ℕ) → i < N → F.pre f i }
+    ensures { (i : ℕ) → i < N → F.post f i (at result i) }
 {
-    let mut out = [0.0; 14];
-    for i in 0..14usize {
-        out[i] = radicand(x[i]);
-    }
-    out
-}
-
-fn estimates(s: [f64; 14]) -> [f64; 14]
-    ensures { Each 14 (λ i. root_estimate (at s i)) result }
-{
-    let mut out = [0.0; 14];
-    for i in 0..14usize {
-        out[i] = square_root::root_estimate(s[i]);
-    }
-    out
-}
-
-// The roots, whatever the estimates are.
-fn roots(s: [f64; 14], g: [f64; 14]) -> [f64; 14]
-    ensures { Each 14 (λ i. sqrt (at s i)) result }
-{
-    let mut out = [0.0; 14];
-    for i in 0..14usize {
-        out[i] = square_root::checked(s[i], g[i]);
-    }
-    out
-}
-
-fn excesses(x: [f64; 14], q: [f64; 14]) -> [f64; 14]
-    ensures { Each 14 (λ i. Lanes.excess (at x i) (at q i)) result }
-{
-    let mut out = [0.0; 14];
-    for i in 0..14usize {
-        out[i] = excess(x[i], q[i]);
-    }
-    out
-}
-
-fn lanes(x: [f64; 14], w: [f64; 14]) -> [f64; 14]
-    ensures { Each 14 (λ i. Lanes.lane (at x i) (at w i)) result }
-{
-    let mut out = [0.0; 14];
-    for i in 0..14usize {
-        out[i] = lane(x[i], w[i]);
-    }
-    out
-}
-
-fn choices(x: [f64; 14], r: [f64; 14]) -> [f64; 14]
-    ensures { Each 14 (λ i. cond (is_nan (at r i)) (Spec.asinh (at x i)) (at r i)) result }
-{
-    let mut out = [0.0; 14];
-    for i in 0..14usize {
-        out[i] = chosen(x[i], r[i]);
+    let mut out = [0.0; N];
+    for i in 0..N {
+        out[i] = f(i);
     }
     out
 }
@@ -168,14 +127,18 @@ fn choices(x: [f64; 14], r: [f64; 14]) -> [f64; 14]
 pub fn asinhs(x: [f64; 14]) -> [f64; 14]
     ensures { (i : ℕ) → i < 14 → at result i ≡ Spec.asinh (at x i) }
 {
-    let s = radicands(x);
-    let q = roots(s, estimates(s));
-    choices(x, lanes(x, excesses(x, q)))
+    let s: [f64; 14] = each(|i| radicand(x[i]));
+    let g: [f64; 14] = each(|i| square_root::root_estimate(s[i]));
+    let q: [f64; 14] = each(|i| square_root::checked(s[i], g[i]));
+    let w: [f64; 14] = each(|i| excess(x[i], q[i]));
+    let r: [f64; 14] = each(|i| lane(x[i], w[i]));
+    each(|i| chosen(x[i], r[i]))
 }
 
 // ---- atan2
 
 // The smaller of two sizes over the larger.
+#[tactic(auto, using(crate::proofs::Arctangent::one_quotient))]
 fn ratio(a: f64, b: f64) -> f64
     ensures { result ≡ cond (lt b a) (b ⊘ a) (a ⊘ b) }
 {
@@ -183,6 +146,7 @@ fn ratio(a: f64, b: f64) -> f64
     select(steep, b, a) / select(steep, a, b)
 }
 
+#[tactic(auto, using(crate::proofs::Arctangent::one_angle), unfolding(elementary::specs::Elementary::atan))]
 fn atan(q: f64) -> f64
     ensures { result ≡ Spec.atan q }
 {
@@ -191,6 +155,7 @@ fn atan(q: f64) -> f64
     atan_at(select(high, PI / 4.0, 0.0), u)
 }
 
+#[tactic(auto, unfolding(crate::specs::Lanes::first_quadrant))]
 fn first_quadrant(a: f64, b: f64) -> f64
     ensures { result ≡ Lanes.first_quadrant a b }
 {
@@ -199,6 +164,7 @@ fn first_quadrant(a: f64, b: f64) -> f64
 }
 
 // atan2(y, x), or NaN.
+#[tactic(auto, unfolding(crate::specs::Lanes::angle))]
 fn angle(y: f64, x: f64) -> f64
     ensures { result ≡ Lanes.angle y x }
 {
@@ -215,59 +181,24 @@ fn padded(x: [f64; 7]) -> [f64; 8]
     ensures { Each 7 (λ i. at x i) result }
 {
     let mut out = [1.0; 8];
-    for i in 0..7usize {
-        out[i] = x[i];
-    }
+    out[..7].copy_from_slice(&x);
     out
 }
 
-fn angles(y: [f64; 8], x: [f64; 8]) -> [f64; 8]
-    ensures { Each 8 (λ i. Lanes.angle (at y i) (at x i)) result }
+fn has_nan(r: &[f64]) -> bool
+    ensures { result ≡ list_any is_nan r.now }
 {
-    let mut out = [0.0; 8];
-    for i in 0..8usize {
-        out[i] = angle(y[i], x[i]);
-    }
-    out
-}
-
-fn front(r: [f64; 8]) -> [f64; 7]
-    ensures { Each 7 (λ i. at r i) result }
-{
-    let mut out = [0.0; 7];
-    for i in 0..7usize {
-        out[i] = r[i];
-    }
-    out
-}
-
-// Whether one of the first seven is NaN.
-fn has_nan(r: [f64; 8]) -> bool
-    ensures { result ≡ Lanes.any_nan 7 r }
-{
-    let mut found = false;
-    for i in 0..7usize {
-        found = found | ieee754::is_nan(r[i]);
-    }
-    found
-}
-
-fn one_by_one(y: [f64; 7], x: [f64; 7]) -> [f64; 7]
-    ensures { Each 7 (λ i. Spec.atan2 (at y i) (at x i)) result }
-{
-    let mut out = [0.0; 7];
-    for i in 0..7usize {
-        out[i] = atan2(y[i], x[i]);
-    }
-    out
+    r.iter().any(|x| ieee754::is_nan(*x))
 }
 
 pub fn atan2s(y: [f64; 7], x: [f64; 7]) -> [f64; 7]
     ensures { (i : ℕ) → i < 7 → at result i ≡ Spec.atan2 (at y i) (at x i) }
 {
-    let r = angles(padded(y), padded(x));
-    if has_nan(r) {
-        return one_by_one(y, x);
+    let a = padded(y);
+    let b = padded(x);
+    let r: [f64; 8] = each(|i| angle(a[i], b[i]));
+    if has_nan(&r[..7]) {
+        return each(|i| atan2(y[i], x[i]));
     }
-    front(r)
+    each(|i| r[i])
 }

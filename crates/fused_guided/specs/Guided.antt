@@ -1,6 +1,6 @@
 -- Inner form: what the guided form tests and computes: the fields of a pattern, the exact sum ±p ± z, its significand, and when the form answers.
 -- Definitions only.
-use Rattle.std.specs.Prelude.{◌≡◌, ℕ, suc, ◌+◌, ◌-◌, ◌*◌, ◌/◌, ◌%◌, ◌^◌, ◌<◌, ◌≤◌, Bool, true, false, not, ◌&&◌, leb, nat_le, nat_lt, to_bits, Float}
+use Rattle.std.specs.Prelude.{◌≡◌, ℕ, Option, Some, None, suc, ◌+◌, ◌-◌, ◌*◌, ◌/◌, ◌%◌, ◌^◌, ◌<◌, ◌≤◌, Bool, true, false, not, ◌&&◌, cond, leb, nat_le, nat_lt, to_bits, Float}
 use Rattle.std.specs.Float.{binary64}
 use Rattle.std.specs.Float.Ieee.{sum, unlike}
 use Rattle.std.specs.Float.Ieee.Exact.{HasValue}
@@ -47,6 +47,10 @@ leads x s = nat_le (2 ^ leading_place) (x * 2 ^ s) && nat_lt (x * 2 ^ s) (2 ^ su
 
 unfoldable pub rounded_significand : ℕ → ℕ → ℕ
 rounded_significand x s = closest (x * 2 ^ s) (2 ^ 64)
+
+-- rounded to a significand, where the leading digit is there
+abbrev pub significand : ℕ → ℕ → Option ℕ
+significand x s = cond (leads x s) (Some (rounded_significand x s)) None
 
 -- ---- when the form answers
 

@@ -2,14 +2,15 @@
 // sum's leading digit should be. Where it says wrong, or a value is out of reach, the integer form answers.
 #![tactic(auto)]
 
-ghost use Rattle.std.specs.Prelude.{◌≡◌, ◌+◌, ◌-◌, ◌*◌, ◌%◌, ◌^◌, ◌<◌, ◌≤◌, true, false, not, T, if◌then◌else◌, is_nan, nat_le};
+ghost use Rattle.std.specs.Prelude.{◌≡◌, ◌+◌, ◌-◌, ◌*◌, ◌%◌, ◌^◌, ◌<◌, ◌≤◌, true, false, not, T, if◌then◌else◌, is_nan, is_some, IfSome};
 ghost use Rattle.std.specs.Float.Ieee.Nearest.{closest};
 ghost use Rattle.binary64.specs.Operations.{fma};
 ghost use Rattle.fused_integer.specs.Jam.{Jam};
+ghost use Rattle.fused_integer.specs.Words.{words};
 ghost use Rattle.fused_guided.specs.Guided as Guided;
 
-use binary64::{LEADING_BIT, QUANTUM_BIAS, SIGN_BIT, TOP_FIELD};
-use fused_integer::{Wide, opposite, product, signed, sticky};
+use binary64::{LEADING_BIT, QUANTUM_BIAS, TOP_FIELD};
+use fused_integer::{Wide, minus_sign, product, signed, sticky};
 
 // A field from here on and below there is far from those of the smallest and the largest values.
 const CENTRAL_FROM: u64 = 768;
@@ -25,13 +26,6 @@ const CUT_BIAS: u64 = 1020;
 // 2 ^ 51: a residual is what a significand has beyond it.
 const HALF_FIELD: u64 = 0x8_0000_0000_0000;
 
-// The bits of a result, or of a significand, where `ok`; where not, `sig` is not read.
-#[derive(Clone, Copy)]
-struct Attempt {
-    ok: bool,
-    sig: u64,
-}
-
 // The exponent's field of a pattern.
 pub fn field(b: u64) -> u64
     ensures { result ≡ Guided.field b }
@@ -46,12 +40,6 @@ pub fn normal_significand(b: u64) -> u64
     LEADING_BIT + b % LEADING_BIT
 }
 
-pub fn minus_sign(b: u64) -> bool
-    ensures { result ≡ nat_le (2 ^ 63) b }
-{
-    b >= SIGN_BIT
-}
-
 // Each bit turned over where c.
 fn turn(c: bool, a: u64) -> u64
     ensures { result ≡ (if c then 2 ^ 64 - 1 - a else a) }
@@ -61,27 +49,26 @@ fn turn(c: bool, a: u64) -> u64
 
 // The sum of two words, with its carry.
 fn carry_add(a: u64, b: u64) -> Wide
-    ensures { (result.hi * 2 ^ 64 + result.lo ≡ a + b) × ((result.lo < 2 ^ 64) × (result.hi ≤ 1)) }
+    ensures { (words result ≡ a + b) × ((result.lo < 2 ^ 64) × (result.hi ≤ 1)) }
 {
-    let lo = std::num::wrapping_add_u64(a, b);
-    if lo < b {
-        Wide { hi: 1, lo: lo }
-    } else {
-        Wide { hi: 0, lo: lo }
+    let (lo, carry) = a.overflowing_add(b);
+    Wide {
+        hi: u64::from(carry),
+        lo,
     }
 }
 
 // ±p ± z in two's complement: the top bit is clear where that is not negative, and may be set where it is 0.
 // Of a difference the larger is turned over before the sum and the sum after it.
-fn signed_sum(cp: bool, ph: u64, pl: u64, cz: bool, zh: u64, zl: u64) -> Wide
-    requires ph_bound { ph < 2 ^ 62 }
-    requires zh_bound { zh < 2 ^ 62 }
-    ensures { Guided.SignedWords cp (ph * 2 ^ 64 + pl) cz (zh * 2 ^ 64 + zl) result.hi result.lo }
+fn signed_sum(cp: bool, p: Wide, cz: bool, z: Wide) -> Wide
+    requires p_bound { p.hi < 2 ^ 62 }
+    requires z_bound { z.hi < 2 ^ 62 }
+    ensures { Guided.SignedWords cp (words p) cz (words z) result.hi result.lo }
 {
-    let a = carry_add(turn(cz, pl), turn(cp, zl));
-    let h = carry_add(turn(cz, ph), turn(cp, zh));
+    let a = carry_add(turn(cz, p.lo), turn(cp, z.lo));
+    let h = carry_add(turn(cz, p.hi), turn(cp, z.hi));
     let g = carry_add(h.lo, a.hi);
-    let c = opposite(cp, cz);
+    let c = cp != cz;
     Wide {
         hi: turn(c, g.lo),
         lo: turn(c, a.lo),
@@ -91,7 +78,7 @@ fn signed_sum(cp: bool, ph: u64, pl: u64, cz: bool, zh: u64, zl: u64) -> Wide
 // One word shifted up into two.
 fn shift_word(w: u64, s: u64) -> Wide
     requires { s < 64 }
-    ensures { result.hi * 2 ^ 64 + result.lo ≡ w * 2 ^ s }
+    ensures { words result ≡ w * 2 ^ s }
 {
     Wide {
         hi: (w >> 1) >> (63 - s),
@@ -100,58 +87,48 @@ fn shift_word(w: u64, s: u64) -> Wide
 }
 
 // Two words shifted up by 1 or more, where nothing leaves them.
-fn shift_more(hi: u64, lo: u64, s: u64) -> Wide
+fn shift_more(w: Wide, s: u64) -> Wide
     requires le_s { (1 ≤ s) × (s < 64) }
-    requires hi_bound { hi < 2 ^ (64 - s) }
-    ensures { (result.hi * 2 ^ 64 + result.lo ≡ (hi * 2 ^ 64 + lo) * 2 ^ s) × (result.lo < 2 ^ 64) }
+    requires hi_bound { w.hi < 2 ^ (64 - s) }
+    ensures { (words result ≡ words w * 2 ^ s) × (result.lo < 2 ^ 64) }
 {
     Wide {
-        hi: (hi << s) | (lo >> (64 - s)),
-        lo: lo << s,
+        hi: (w.hi << s) | (w.lo >> (64 - s)),
+        lo: w.lo << s,
     }
 }
 
-// q and a fraction of 2 ^ 64, to the nearest whole number, a tie to the even one.
-fn near_word(q: u64, rest: u64) -> u64
-    requires { q < 2 ^ 53 }
-    ensures { result ≡ closest (q * 2 ^ 64 + rest) (2 ^ 64) }
+// The upper word and the lower one as a fraction of it, to the nearest whole number, a tie to the even one.
+fn near_word(w: Wide) -> u64
+    requires { w.hi < 2 ^ 53 }
+    ensures { result ≡ closest (words w) (2 ^ 64) }
 {
-    if 0x8000_0000_0000_0000 - q % 2 < rest {
-        q + 1
+    if 0x8000_0000_0000_0000 - w.hi % 2 < w.lo {
+        w.hi + 1
     } else {
-        q
+        w.hi
     }
-}
-
-fn refused() -> Attempt
-    ensures { (result.ok ≡ false) × (result.sig ≡ 0) }
-{
-    Attempt { ok: false, sig: 0 }
 }
 
 // ±u * v ± w * 2 ^ k, shifted up by s and rounded to a significand, exactly if the shifted sum has its leading
 // digit at its place, 116: 53 digits, and 64 to be rounded off.
-fn guided_sum(cp: bool, u: u64, v: u64, cz: bool, w: u64, k: u64, s: u64) -> Attempt
+fn guided_sum(cp: bool, u: u64, v: u64, cz: bool, w: u64, k: u64, s: u64) -> Option<u64>
     requires u_bound { (u < 2 ^ 53) × (v < 2 ^ 53) }
     requires w_bound { (w < 2 ^ 53) × (k < 64) }
     requires le_s { (1 ≤ s) × (s < 63) }
-    ensures { (result.ok ≡ Guided.leads (Guided.signed_sum cp (u * v) cz (w * 2 ^ k)) s)
-        × (result.sig ≡ (if result.ok then Guided.rounded_significand (Guided.signed_sum cp (u * v) cz (w * 2 ^ k)) s else 0)) }
+    ensures { result ≡ Guided.significand (Guided.signed_sum cp (u * v) cz (w * 2 ^ k)) s }
 {
     let p = product(u, v);
     let z = shift_word(w, k);
-    let d = signed_sum(cp, p.hi, p.lo, cz, z.hi, z.lo);
+    let d = signed_sum(cp, p, cz, z);
     if (d.hi >> (64 - s)) != 0 {
-        return refused();
+        return None;
     }
-    let x = shift_more(d.hi, d.lo, s);
+    let x = shift_more(d, s);
     if (x.hi >> 52) != 1 {
-        return refused();
+        return None;
     }
-    Attempt {
-        ok: true,
-        sig: near_word(x.hi, x.lo),
-    }
+    Some(near_word(x))
 }
 
 // A factor's field is far from those of the smallest and the largest values, so that no product of two such is
@@ -169,9 +146,10 @@ fn usable(ex: u64, ey: u64, k: u64, s: u64) -> bool
 }
 
 // The bits of x * y + z, worked out with the sign and the exponent of t, which may be anything: where t's
-// exponent is not the sum's, the answer is refused.
-fn guided_bits(bx: u64, by: u64, bz: u64, bt: u64) -> Attempt
-    ensures { (result.ok ≡ Guided.guided bx by bz bt) × (result.ok ≡ true → Guided.Found bx by bz result.sig) }
+// exponent is not the sum's, there is no answer.
+fn guided_bits(bx: u64, by: u64, bz: u64, bt: u64) -> Option<u64>
+    ensures given { is_some result ≡ Guided.guided bx by bz bt }
+    ensures found { IfSome result (λ r. Guided.Found bx by bz r) }
 {
     let ex = field(bx);
     let ey = field(by);
@@ -180,23 +158,21 @@ fn guided_bits(bx: u64, by: u64, bz: u64, bt: u64) -> Attempt
     let k = std::num::wrapping_sub_u64(ez + QUANTUM_BIAS, ex + ey);
     let s = std::num::wrapping_sub_u64(ex + ey, et + WORD_BIAS);
     if !usable(ex, ey, k, s) {
-        return refused();
+        return None;
     }
     let nt = minus_sign(bt);
-    let np = opposite(minus_sign(bx), minus_sign(by));
+    let np = minus_sign(bx) != minus_sign(by);
+    let nz = minus_sign(bz);
     let g = guided_sum(
-        opposite(np, nt),
+        np != nt,
         normal_significand(bx),
         normal_significand(by),
-        opposite(minus_sign(bz), nt),
+        nz != nt,
         normal_significand(bz),
         k,
         s,
-    );
-    Attempt {
-        ok: g.ok,
-        sig: signed(nt, (et - 1) * LEADING_BIT + g.sig),
-    }
+    )?;
+    Some(signed(nt, (et - 1) * LEADING_BIT + g))
 }
 
 // ---- z far above the product
@@ -220,11 +196,11 @@ fn far_above(ex: u64, ey: u64, ez: u64) -> bool
 }
 
 // The digits of a product of two significands above its 55 lowest, with a sticky bit for those.
-fn jam_product(hi: u64, lo: u64) -> u64
-    requires { hi < 2 ^ 42 }
-    ensures { (Jam (hi * 2 ^ 64 + lo) (2 ^ 55) result) × (result < 2 ^ 51) }
+fn jam_product(w: Wide) -> u64
+    requires { w.hi < 2 ^ 42 }
+    ensures { (Jam (words w) (2 ^ 55) result) × (result < 2 ^ 51) }
 {
-    sticky(hi * 512 + (lo >> 55), lo % 0x80_0000_0000_0000)
+    sticky(w.hi * 512 + (w.lo >> 55), w.lo % 0x80_0000_0000_0000)
 }
 
 // fma of numbers, without a guide. Where z is far above x * y it is the hardware's sum of z and the product
@@ -244,8 +220,8 @@ fn unguided(x: f64, y: f64, z: f64) -> f64
         return fused_integer::fused_numbers(x, y, z);
     }
     let p = product(normal_significand(bx), normal_significand(by));
-    let f = jam_product(p.hi, p.lo);
-    let n = opposite(minus_sign(bx), minus_sign(by));
+    let f = jam_product(p);
+    let n = minus_sign(bx) != minus_sign(by);
     z + residual_float(n, HALF_FIELD + f, ex + ey - CUT_BIAS)
 }
 
@@ -258,14 +234,14 @@ pub fn guided(x: f64, y: f64, z: f64, t: f64) -> f64
     requires t_4 { T (not (is_nan t)) }
     ensures { result ≡ fma x y z }
 {
-    let a = guided_bits(
+    let found = guided_bits(
         f64::to_bits(x),
         f64::to_bits(y),
         f64::to_bits(z),
         f64::to_bits(t),
     );
-    if !a.ok {
-        return unguided(x, y, z);
+    match found {
+        Some(bits) => f64::from_bits(bits),
+        None => unguided(x, y, z),
     }
-    f64::from_bits(a.sig)
 }

@@ -3,9 +3,8 @@
 #![tactic(auto)]
 
 ghost use Rattle.std.specs.Prelude.{◌≡◌, ◌+◌, ◌-◌, ◌*◌, ◌/◌, ◌%◌, ◌^◌, ◌<◌, ◌≤◌, true, false, not, T, if◌then◌else◌, ◌≢◌, is_nan, nat_le, to_bits};
-ghost use Rattle.std.specs.Bool.{beq};
 ghost use Rattle.std.specs.Float.{binary64};
-ghost use Rattle.std.specs.Float.Ieee.{sum, unlike};
+ghost use Rattle.std.specs.Float.Ieee.{sum};
 ghost use Rattle.std.specs.Float.Ieee.Nearest.{closest};
 ghost use Rattle.binary64.specs.Operations.{fma};
 ghost use Rattle.binary64.specs.Format.{trailing, lowest, magnitude_digits, largest_field, infinity_bits};
@@ -13,6 +12,7 @@ ghost use Rattle.binary64.specs.Nearest.{den};
 ghost use Rattle.fused_integer.specs.Jam.{Jam};
 ghost use Rattle.fused_integer.specs.Rounds.{rounds};
 ghost use Rattle.binary64.specs.Pattern.{mag};
+ghost use Rattle.fused_integer.specs.Words.{words};
 ghost use Rattle.fused_integer.specs.Parts.{Normal, Placed, Narrow, Lifted, Finish, Ordered, Combined};
 
 use binary64::{INFINITY_BITS, SIGN_BIT};
@@ -40,11 +40,10 @@ struct Part {
     exp: u64,
 }
 
-// (hi * 2 ^ 64 + lo) * 2 ^ exp / 2 ^ 127, with the leading bit at place 126.
+// wide * 2 ^ exp / 2 ^ 127, with the leading bit of `wide` at place 126.
 #[derive(Clone, Copy)]
 struct Scaled {
-    hi: u64,
-    lo: u64,
+    wide: Wide,
     exp: u64,
 }
 
@@ -56,6 +55,7 @@ pub fn sticky(x: u64, rest: u64) -> u64
 }
 
 // The d low bits of x, at the top of a word.
+#[tactic(auto, using(crate::proofs::Laws::Words::slide))]
 fn low_bits(x: u64, d: u64) -> u64
     requires { d < 64 }
     ensures { result ≡ x % 2 ^ d * 2 ^ (64 - d) }
@@ -63,36 +63,36 @@ fn low_bits(x: u64, d: u64) -> u64
     (x << 1) << (63 - d)
 }
 
-// hi * 2 ^ 64 + lo over 2 ^ d, its last bit set where anything was cut off (SoftFloat's shift right and jam).
+// w over 2 ^ d, its last bit set where anything was cut off (SoftFloat's shift right and jam).
 // `jam_near` is for a shift below a word, `jam_far` for one by a word and d more.
-fn jam_near(hi: u64, lo: u64, d: u64) -> Wide
+fn jam_near(w: Wide, d: u64) -> Wide
     requires { d < 64 }
-    ensures { Jam (hi * 2 ^ 64 + lo) (2 ^ d) (result.hi * 2 ^ 64 + result.lo) }
+    ensures { Jam (words w) (2 ^ d) (words result) }
 {
-    let m = low_bits(hi, d) | (lo >> d);
+    let m = low_bits(w.hi, d) | (w.lo >> d);
     Wide {
-        hi: hi >> d,
-        lo: sticky(m, low_bits(lo, d)),
+        hi: w.hi >> d,
+        lo: sticky(m, low_bits(w.lo, d)),
     }
 }
 
-fn jam_far(hi: u64, lo: u64, d: u64) -> u64
+fn jam_far(w: Wide, d: u64) -> u64
     requires { d < 64 }
-    ensures { Jam (hi * 2 ^ 64 + lo) (2 ^ (64 + d)) result }
+    ensures { Jam (words w) (2 ^ (64 + d)) result }
 {
-    sticky(hi >> d, low_bits(hi, d) | lo)
+    sticky(w.hi >> d, low_bits(w.hi, d) | w.lo)
 }
 
-fn jam(hi: u64, lo: u64, d: u64) -> Wide
-    requires { 0 < hi }
-    ensures { Jam (hi * 2 ^ 64 + lo) (2 ^ d) (result.hi * 2 ^ 64 + result.lo) }
+fn jam(w: Wide, d: u64) -> Wide
+    requires { 0 < w.hi }
+    ensures { Jam (words w) (2 ^ d) (words result) }
 {
     if d < 64 {
-        jam_near(hi, lo, d)
+        jam_near(w, d)
     } else if d < 128 {
         Wide {
             hi: 0,
-            lo: jam_far(hi, lo, d - 64),
+            lo: jam_far(w, d - 64),
         }
     } else {
         Wide { hi: 0, lo: 1 }
@@ -100,6 +100,7 @@ fn jam(hi: u64, lo: u64, d: u64) -> Wide
 }
 
 // m / 2 ^ 11 to the nearest whole number, a tie to the even one, on top of the exponent's field k.
+#[tactic(auto, using(crate::proofs::Laws::Final::word_round))]
 fn rounded(m: u64, k: u64) -> u64
     requires { k < largest_field }
     ensures { result ≡ k * 2 ^ trailing + closest m 2048 }
@@ -133,7 +134,7 @@ fn pack(sig: u64, exp: u64) -> u64
 }
 
 pub fn product(u: u64, v: u64) -> Wide
-    ensures { result.hi * 2 ^ 64 + result.lo ≡ u * v }
+    ensures { words result ≡ u * v }
 {
     Wide {
         hi: binary64::high_product(u, v),
@@ -142,6 +143,7 @@ pub fn product(u: u64, v: u64) -> Wide
 }
 
 // The significand of a pattern without its sign, shifted up by its leading zero bits.
+#[tactic(auto, using(binary64::proofs::Size::zeros_lt, crate::proofs::Laws::Shifts::unpack_low, crate::proofs::Laws::Shifts::unpack_high))]
 fn unpack(a: u64) -> Part
     requires a_nonzero { 0 < a }
     requires a_lt_infinity_bits { a < infinity_bits }
@@ -163,147 +165,136 @@ fn unpack(a: u64) -> Part
 }
 
 // The two words shifted up by all of their leading zero bits but one, of which they have one or two.
-fn lift(hi: u64, lo: u64, g: u64) -> Scaled
-    requires hi_bound { (hi < 2 ^ 63) × (2 ^ 125 ≤ hi * 2 ^ 64 + lo) }
+#[tactic(auto, using(crate::proofs::Laws::Shifts::zeros_some, crate::proofs::Laws::Shifts::zeros_two))]
+fn lift(w: Wide, g: u64) -> Scaled
+    requires hi_bound { (w.hi < 2 ^ 63) × (2 ^ 125 ≤ words w) }
     requires le_g { 2 ≤ g }
-    ensures { Lifted (hi * 2 ^ 64 + lo) g (result.hi * 2 ^ 64 + result.lo) result.exp }
+    ensures { Lifted (words w) g (words result.wide) result.exp }
 {
-    let s = u64::leading_zeros(hi) as u64 - 1;
+    let s = u64::leading_zeros(w.hi) as u64 - 1;
     Scaled {
-        hi: (hi << s) | ((lo >> 63) & s),
-        lo: lo << s,
+        wide: Wide {
+            hi: (w.hi << s) | ((w.lo >> 63) & s),
+            lo: w.lo << s,
+        },
         exp: g - s,
     }
 }
 
 // Sum and difference of two numbers of two words each.
-fn add(ah: u64, al: u64, bh: u64, bl: u64) -> Wide
-    requires ah_bound { ah < 2 ^ 63 }
-    requires bh_bound { bh < 2 ^ 63 }
-    ensures { result.hi * 2 ^ 64 + result.lo ≡ (ah * 2 ^ 64 + al) + (bh * 2 ^ 64 + bl) }
+fn add(a: Wide, b: Wide) -> Wide
+    requires a_bound { a.hi < 2 ^ 63 }
+    requires b_bound { b.hi < 2 ^ 63 }
+    ensures { words result ≡ words a + words b }
 {
-    let lo = std::num::wrapping_add_u64(al, bl);
-    if lo < bl {
-        Wide {
-            hi: ah + bh + 1,
-            lo: lo,
-        }
-    } else {
-        Wide {
-            hi: ah + bh,
-            lo: lo,
-        }
+    let (lo, carry) = a.lo.overflowing_add(b.lo);
+    Wide {
+        hi: a.hi + b.hi + u64::from(carry),
+        lo,
     }
 }
 
-fn sub(ah: u64, al: u64, bh: u64, bl: u64) -> Wide
-    requires { bh * 2 ^ 64 + bl ≤ ah * 2 ^ 64 + al }
-    ensures { result.hi * 2 ^ 64 + result.lo ≡ (ah * 2 ^ 64 + al) - (bh * 2 ^ 64 + bl) }
+fn sub(a: Wide, b: Wide) -> Wide
+    requires { words b ≤ words a }
+    ensures { words result ≡ words a - words b }
 {
-    let lo = std::num::wrapping_sub_u64(al, bl);
-    if al < bl {
-        Wide {
-            hi: ah - bh - 1,
-            lo: lo,
-        }
-    } else {
-        Wide {
-            hi: ah - bh,
-            lo: lo,
-        }
+    let (lo, borrow) = a.lo.overflowing_sub(b.lo);
+    Wide {
+        hi: a.hi - b.hi - u64::from(borrow),
+        lo,
     }
 }
 
 // Two words as one with its leading bit at place 63, its last bit set where anything was cut off.
-fn narrow(hi: u64, lo: u64, g: u64) -> Part
-    requires lo_nonzero { 0 < hi * 2 ^ 64 + lo }
+#[tactic(auto, using(binary64::proofs::Size::zeros_lt))]
+fn narrow(w: Wide, g: u64) -> Part
+    requires w_nonzero { 0 < words w }
     requires lowest_lt_g { lowest < g }
     requires g_bound { g ≤ 2 * magnitude_digits }
-    ensures { Narrow (hi * 2 ^ 64 + lo) g result.sig result.exp }
+    ensures { Narrow (words w) g result.sig result.exp }
 {
-    if hi == 0 {
-        let lz = u64::leading_zeros(lo) as u64;
+    if w.hi == 0 {
+        let lz = u64::leading_zeros(w.lo) as u64;
         Part {
-            sig: lo << lz,
+            sig: w.lo << lz,
             exp: g - 63 - lz,
         }
     } else {
-        let lz = u64::leading_zeros(hi) as u64;
-        let m = (hi << lz) | ((lo >> 1) >> (63 - lz));
+        let lz = u64::leading_zeros(w.hi) as u64;
+        let m = (w.hi << lz) | ((w.lo >> 1) >> (63 - lz));
         Part {
-            sig: sticky(m, lo << lz),
+            sig: sticky(m, w.lo << lz),
             exp: g + 1 - lz,
         }
     }
 }
 
 // The bits of the rounded value of two words, 0 for 0.
-fn finish(hi: u64, lo: u64, g: u64) -> u64
+#[tactic(auto, using(crate::proofs::Laws::Finishing::finish_law))]
+fn finish(w: Wide, g: u64) -> u64
     requires lowest_lt_g { lowest < g }
     requires g_bound { g ≤ 2 * magnitude_digits }
-    ensures { Finish (hi * 2 ^ 64 + lo) g result }
+    ensures { Finish (words w) g result }
 {
-    if (hi | lo) == 0 {
+    if (w.hi | w.lo) == 0 {
         0
     } else {
-        let p = narrow(hi, lo, g);
+        let p = narrow(w, g);
         pack(p.sig, p.exp)
     }
 }
 
 // The exact product of two magnitudes, in units of 2 ^ -2148.
+#[tactic(auto, using(crate::proofs::Laws::Combine::product_top, crate::proofs::Laws::Combine::product_lead, crate::proofs::Laws::Combine::high_small))]
 fn multiply(ax: u64, ay: u64) -> Scaled
     requires ax_nonzero { (0 < ax) × (ax < infinity_bits) }
     requires ay_nonzero { (0 < ay) × (ay < infinity_bits) }
-    ensures { Placed (result.hi * 2 ^ 64 + result.lo) result.exp (mag ax * mag ay) }
+    ensures { Placed (words result.wide) result.exp (mag ax * mag ay) }
 {
     let x = unpack(ax);
     let y = unpack(ay);
     let w = product(x.sig >> 1, y.sig);
-    lift(w.hi, w.lo, x.exp + y.exp)
+    lift(w, x.exp + y.exp)
 }
 
 // A magnitude in the same units.
 fn scale(az: u64) -> Scaled
     requires { (0 < az) × (az < infinity_bits) }
-    ensures { (Placed (result.hi * 2 ^ 64 + result.lo) result.exp (mag az * 2 ^ lowest)) × (lowest < result.exp) }
+    ensures { (Placed (words result.wide) result.exp (mag az * 2 ^ lowest)) × (lowest < result.exp) }
 {
     let z = unpack(az);
     Scaled {
-        hi: z.sig >> 1,
-        lo: 0,
+        wide: Wide {
+            hi: z.sig >> 1,
+            lo: 0,
+        },
         exp: z.exp + binary64::LOWEST,
     }
 }
 
-fn choose(c: bool, a: u64, b: u64) -> u64
-    ensures { result ≡ (if c then a else b) }
-{
-    if c { a } else { b }
-}
-
 // The magnitude of the sum or the difference of two scaled numbers, the first no smaller.
-fn combine(same: bool, ah: u64, al: u64, g: u64, bh: u64, bl: u64, h: u64) -> u64
-    requires { Ordered (ah * 2 ^ 64 + al) g (bh * 2 ^ 64 + bl) h }
-    ensures { Combined same (ah * 2 ^ 64 + al) g (bh * 2 ^ 64 + bl) h result }
+#[tactic(auto, using(crate::proofs::Laws::Combine::high_pos, crate::proofs::Laws::Combine::high_small))]
+fn combine(same: bool, a: Scaled, b: Scaled) -> u64
+    requires { Ordered (words a.wide) a.exp (words b.wide) b.exp }
+    ensures { Combined same (words a.wide) a.exp (words b.wide) b.exp result }
 {
-    let w = jam(bh, bl, g - h);
-    let s = add(ah, al, w.hi, w.lo);
-    let d = sub(ah, al, w.hi, w.lo);
-    finish(choose(same, s.hi, d.hi), choose(same, s.lo, d.lo), g)
+    let w = jam(b.wide, a.exp - b.exp);
+    let total = if same { add(a.wide, w) } else { sub(a.wide, w) };
+    finish(total, a.exp)
 }
 
-// Whether a * 2 ^ g is above b * 2 ^ h, of numbers with one leading place.
-fn larger(ah: u64, al: u64, g: u64, bh: u64, bl: u64, h: u64) -> bool
-    ensures { (result ≡ true → (h ≤ g) × (h ≡ g → bh * 2 ^ 64 + bl < ah * 2 ^ 64 + al))
-        × (result ≡ false → (g ≤ h) × (g ≡ h → ah * 2 ^ 64 + al ≤ bh * 2 ^ 64 + bl)) }
+// Whether a is above b, of numbers with one leading place.
+#[tactic(auto, using(crate::proofs::Laws::Larger::by_exp, crate::proofs::Laws::Larger::by_high, crate::proofs::Laws::Larger::by_low))]
+fn larger(a: Scaled, b: Scaled) -> bool
+    ensures { (result ≡ true → (b.exp ≤ a.exp) × (b.exp ≡ a.exp → words b.wide < words a.wide))
+        × (result ≡ false → (a.exp ≤ b.exp) × (a.exp ≡ b.exp → words a.wide ≤ words b.wide)) }
 {
-    if g != h {
-        g > h
-    } else if ah != bh {
-        ah > bh
+    if a.exp != b.exp {
+        a.exp > b.exp
+    } else if a.wide.hi != b.wide.hi {
+        a.wide.hi > b.wide.hi
     } else {
-        al > bl
+        a.wide.lo > b.wide.lo
     }
 }
 
@@ -312,12 +303,6 @@ pub fn signed(negative: bool, m: u64) -> u64
     ensures { result ≡ (if negative then 2 ^ 63 else 0) + m }
 {
     if negative { SIGN_BIT + m } else { m }
-}
-
-fn alike(a: bool, b: bool) -> bool
-    ensures { result ≡ beq a b }
-{
-    a == b
 }
 
 // The bits of the sum of a product and a number, neither 0.
@@ -329,57 +314,54 @@ fn finite(np: bool, ax: u64, ay: u64, nz: bool, az: u64) -> u64
 {
     let p = multiply(ax, ay);
     let z = scale(az);
-    let same = alike(np, nz);
-    if larger(z.hi, z.lo, z.exp, p.hi, p.lo, p.exp) {
-        signed(nz, combine(same, z.hi, z.lo, z.exp, p.hi, p.lo, p.exp))
+    let same = np == nz;
+    if larger(z, p) {
+        signed(nz, combine(same, z, p))
     } else if same {
-        signed(np, combine(same, p.hi, p.lo, p.exp, z.hi, z.lo, z.exp))
-    } else if larger(p.hi, p.lo, p.exp, z.hi, z.lo, z.exp) {
-        signed(np, combine(same, p.hi, p.lo, p.exp, z.hi, z.lo, z.exp))
+        signed(np, combine(same, p, z))
+    } else if larger(p, z) {
+        signed(np, combine(same, p, z))
     } else {
         signed(false, 0)
     }
 }
 
-// The pattern without its sign, and the sign.
-fn magnitude(x: f64) -> u64
-    requires { T (not (is_nan x)) }
-    ensures { result ≡ to_bits binary64 x % 2 ^ 63 }
+// A pattern without its sign, and the sign.
+fn magnitude(b: u64) -> u64
+    ensures { result ≡ b % 2 ^ 63 }
 {
-    f64::to_bits(x) & 0x7fff_ffff_ffff_ffff
+    b & 0x7fff_ffff_ffff_ffff
 }
 
-fn negative(x: f64) -> bool
-    requires { T (not (is_nan x)) }
-    ensures { result ≡ nat_le (2 ^ 63) (to_bits binary64 x) }
+pub fn minus_sign(b: u64) -> bool
+    ensures { result ≡ nat_le (2 ^ 63) b }
 {
-    f64::to_bits(x) >= SIGN_BIT
+    b >= SIGN_BIT
 }
 
 // Neither 0 nor an infinity.
+#[tactic(auto, using(crate::proofs::Laws::Larger::plain_zero, crate::proofs::Laws::Larger::plain_word))]
 fn plain(a: u64) -> bool
     ensures { (result ≡ true → (0 < a) × (a < infinity_bits)) × (result ≡ false → (0 < a) → infinity_bits ≤ a) }
 {
     if a == 0 { false } else { a < INFINITY_BITS }
 }
 
-pub fn opposite(a: bool, b: bool) -> bool
-    ensures { result ≡ unlike a b }
-{
-    a != b
-}
-
 // fma by whole numbers, where none of the three is a NaN. A product of a zero or an infinity is exact, and so is
 // a sum of x * y with a zero.
+#[tactic(auto, using(crate::proofs::Laws::Cases::sum_no_nan))]
 pub fn fused_numbers(x: f64, y: f64, z: f64) -> f64
     requires t { T (not (is_nan x)) }
     requires t_2 { T (not (is_nan y)) }
     requires t_3 { T (not (is_nan z)) }
     ensures { result ≡ fma x y z }
 {
-    let ax = magnitude(x);
-    let ay = magnitude(y);
-    let az = magnitude(z);
+    let bx = f64::to_bits(x);
+    let by = f64::to_bits(y);
+    let bz = f64::to_bits(z);
+    let ax = magnitude(bx);
+    let ay = magnitude(by);
+    let az = magnitude(bz);
     if !plain(ax) {
         return x * y + z;
     }
@@ -392,10 +374,12 @@ pub fn fused_numbers(x: f64, y: f64, z: f64) -> f64
     if az >= INFINITY_BITS {
         return z;
     }
-    f64::from_bits(finite(opposite(negative(x), negative(y)), ax, ay, negative(z), az))
+    let np = minus_sign(bx) != minus_sign(by);
+    f64::from_bits(finite(np, ax, ay, minus_sign(bz), az))
 }
 
 // fma by whole numbers, for every input.
+#[tactic(auto, using(crate::proofs::Laws::Cases::nan_of, crate::proofs::Laws::Cases::nan_x, crate::proofs::Laws::Cases::nan_y, crate::proofs::Laws::Cases::nan_z, binary64::proofs::Pattern::self_equal))]
 pub fn fused_integer(x: f64, y: f64, z: f64) -> f64
     ensures { result ≡ fma x y z }
 {

@@ -22,6 +22,7 @@ const TWO_TO_200: f64 = 1.6069380442589903e60;
 const TWO_TO_400: f64 = 2.5822498780869086e120;
 
 // x, or 0 for a NaN, which has no pattern.
+#[tactic(auto, using(crate::proofs::Laws::Pattern::equal_number), unfolding(crate::specs::Lanes::number))]
 fn number(x: f64) -> f64
     ensures value { result ≡ Spec.number x }
     ensures result_value { is_nan result ≡ false }
@@ -30,6 +31,7 @@ fn number(x: f64) -> f64
 }
 
 // The pattern of |x|.
+#[tactic(auto, unfolding(crate::specs::Lanes::magnitude_or_zero))]
 fn magnitude_or_zero(x: f64) -> u64
     ensures value { result ≡ Spec.magnitude_or_zero x }
     ensures upper_bound { result ≤ infinity_bits }
@@ -38,6 +40,7 @@ fn magnitude_or_zero(x: f64) -> u64
 }
 
 // The 26 leading digits: their square is exact.
+#[tactic(auto, using(binary64::proofs::Pattern::no_nan), unfolding(crate::specs::Lanes::leading))]
 fn leading(b: u64) -> f64
     requires { b ≤ infinity_bits }
     ensures { result ≡ Spec.leading b }
@@ -46,6 +49,7 @@ fn leading(b: u64) -> f64
 }
 
 // Nearly a * a - q, for the rounded square q.
+#[tactic(auto, unfolding(crate::specs::Lanes::square_residual))]
 fn square_residual(a: f64, h: f64, q: f64) -> f64
     ensures { result ≡ Spec.square_residual a h q }
 {
@@ -53,6 +57,7 @@ fn square_residual(a: f64, h: f64, q: f64) -> f64
 }
 
 // q + z - s, for the rounded sum s: the larger term is taken off first.
+#[tactic(auto, unfolding(crate::specs::Lanes::sum_residual))]
 fn sum_residual(q: f64, z: f64, s: f64) -> f64
     ensures { result ≡ Spec.sum_residual q z s }
 {
@@ -61,6 +66,7 @@ fn sum_residual(q: f64, z: f64, s: f64) -> f64
 }
 
 // s + v where the margin changes nothing, and else r.
+#[tactic(auto, unfolding(crate::specs::Lanes::settled))]
 fn settled(ok: bool, s: f64, v: f64, r: f64) -> f64
     ensures { result ≡ Spec.settled ok s v r }
 {
@@ -70,6 +76,7 @@ fn settled(ok: bool, s: f64, v: f64, r: f64) -> f64
 }
 
 // fma x x z, or NaN where the test does not settle it.
+#[tactic(auto, using(binary64::proofs::Pattern::no_nan))]
 pub fn square_add(x: f64, z: f64) -> f64
     ensures value { result ≡ Spec.square_add x z }
     ensures value_2 { is_nan result ≡ false → result ≡ fma x x z }

@@ -7,9 +7,9 @@ ghost use Rattle.binary64.specs.Operations.{fma};
 ghost use Rattle.fused_integer.specs.Jam.{Jam};
 ghost use Rattle.fused_multiply_add.specs.Residual as Residual;
 
-use binary64::{QUANTUM_BIAS, SIGN_BIT};
-use fused_guided::{central, field, guided, minus_sign, normal_significand, residual_float};
-use fused_integer::{opposite, sticky};
+use binary64::QUANTUM_BIAS;
+use fused_guided::{central, field, guided, normal_significand, residual_float};
+use fused_integer::{minus_sign, sticky};
 
 // A value with the field ex + ey - RESIDUAL_BIAS has its last digit 12 places above the last of the product, where the
 // residual is cut.
@@ -20,6 +20,7 @@ const LEAST_PLACE: u64 = 15;
 
 // z is a zero that changes nothing of the rounded product p. Where p is a zero too, the exact product's sign
 // decides.
+#[tactic(auto, unfolding(crate::specs::Residual::lone_product))]
 fn lone_product(p: f64, z: f64) -> bool
     ensures { result ≡ Residual.lone_product p z }
 {
@@ -38,6 +39,8 @@ fn negate(c: bool, a: u64) -> u64
 }
 
 // The exact residual of ±u * v ± w * 2 ^ k over c * 2 ^ m, and 2 ^ 63: one word, since the residual is small.
+// The eight stay numbers: a struct of each term would be made and read here alone.
+#[tactic(auto, using(crate::proofs::Laws::Residual::residual_law))]
 fn residual_word(cp: bool, u: u64, v: u64, cz: bool, w: u64, k: u64, c: u64, m: u64) -> u64
     requires k_bound { (k < 64) × (m < 64) }
     requires fits { Residual.Fits cp (u * v) cz (w * 2 ^ k) (c * 2 ^ m) }
@@ -68,6 +71,7 @@ fn reach(ex: u64, ey: u64, k: u64, m: u64) -> bool
 // fma for every input. Where neither factor is near the smallest or the largest values, z is not far from the
 // product and little is lost by cancelling, three roundings of the hardware are enough: the third adds the exact
 // residual of the first two. A flat screen has many a z of 0, so that is tested first.
+#[tactic(auto, using(binary64::proofs::Pattern::self_equal, fused_integer::proofs::Laws::Cases::lone_product_lem, crate::proofs::Laws::Candidate::cut_place), unfolding(crate::specs::Residual::lone_product))]
 pub fn mul_add(x: f64, y: f64, z: f64) -> f64
     ensures { result ≡ fma x y z }
 {
@@ -91,8 +95,9 @@ pub fn mul_add(x: f64, y: f64, z: f64) -> f64
         return guided(x, y, z, t);
     }
     let nt = minus_sign(bt);
-    let cp = opposite(opposite(minus_sign(bx), minus_sign(by)), nt);
-    let cz = opposite(minus_sign(bz), nt);
+    let np = minus_sign(bx) != minus_sign(by);
+    let cp = np != nt;
+    let cz = minus_sign(bz) != nt;
     let g = residual_word(
         cp,
         normal_significand(bx),
@@ -107,6 +112,7 @@ pub fn mul_add(x: f64, y: f64, z: f64) -> f64
 }
 
 // fma x x z for every input. Where z is not negative no sign is left to be looked at.
+#[tactic(auto, using(binary64::proofs::Pattern::self_equal, fused_integer::proofs::Laws::Cases::lone_product_lem, crate::proofs::Laws::Candidate::cut_place), unfolding(crate::specs::Residual::lone_product))]
 pub fn square_add(x: f64, z: f64) -> f64
     ensures { result ≡ fma x x z }
 {
@@ -121,7 +127,7 @@ pub fn square_add(x: f64, z: f64) -> f64
     let bx = f64::to_bits(x);
     let bz = f64::to_bits(z);
     let bt = f64::to_bits(t);
-    if bz >= SIGN_BIT {
+    if minus_sign(bz) {
         return mul_add(x, x, z);
     }
     let ex = field(bx);

@@ -25,11 +25,11 @@ abbrev pub all_marks : List Bool
 all_marks = replicate max_nodes true
 
 -- a call that is done
-module _ (m : Mesh) (out : List Float) (r : ℕ) (e : r ≡ sized_refusal m (length out)) (z : r ≡ 0) where
+module _ (m : Mesh) (out : List Float) (e : 0 ≡ sized_refusal m (length out)) where
   pub ready : Ready m out all_marks
   unfolding sized_refusal
   ready =
-      let w = mesh-accepted max_nodes max_panels m (size_checks (nnode m) (length out)) tt (sym e ∙ z) in
+      let w = mesh-accepted max_nodes max_panels m (size_checks (nnode m) (length out)) tt (sym e) in
       let a = w.0 in
       record {
         nodes_alike = a.nodes_alike;
@@ -51,4 +51,4 @@ module _ (m : Mesh) (out : List Float) (r : ℕ) (e : r ≡ sized_refusal m (len
       let g = cell (mutual_inductance_block kind) m in
       let f = renewed_whole (marked all_marks) g (nnode m) out (λ k l. get_or-replicate max_nodes k true false (lt_of_lt_of_le l ready.sized.small)) in
       let c = h ∙ f ∙ sym (after-done 0 (square (nnode m) g) out refl) in
-      record { refusal = sym z ∙ e; cells = c; symmetric = left-symmetric (mutual_inductance_block kind) m out 0 _ c }
+      record { refusal = e; cells = c; symmetric = left-symmetric (mutual_inductance_block kind) m out 0 _ c }

@@ -1,14 +1,12 @@
--- Named cells cleared, the additions on and above the diagonal made and the cells below it copied: the renewed matrix, of the same length.
-use mathlib.Core.Path.{◌≡◌, sym, ap, ◌∙◌}
+-- Named cells cleared, the additions on and above the diagonal made and the cells below it copied: the renewed matrix.
+use mathlib.Core.Path.{◌≡◌, ap, ◌∙◌}
 use mathlib.Core.Bool.{Bool}
 use mathlib.Core.List.{List}
-use Prim.Native.Nat.{ℕ, ◌*◌}
-use lib.ListN.{length}
+use Prim.Native.Nat.{ℕ}
 use lib.Ieee.{Float}
 use Rattle.binary64.specs.Binary64.{plus_zero}
 use Rattle.mesh.specs.Mesh.{Mesh}
 use Rattle.scatter.specs.Renewal.{renewing, renewed, Within}
-use Rattle.scatter.proofs.Cells.{length-renewed}
 use Rattle.scatter.specs.Mirror.{copied_below}
 use Rattle.scatter.proofs.Mirror.{renew_all}
 use Rattle.pair_loops.specs.Additions.{Block, entries}
@@ -22,6 +20,3 @@ pub loops_done : (r : ℕ → Bool) (n : ℕ) (f : Block) (m : Mesh) (old start 
     → new ≡ renewed r (cell f m) n old
 unfolding cell summed_cell
 loops_done r n f m old start added new w s e c = c ∙ ap (copied_below r n) e ∙ renew_all r n (entries f m) old start w s
-
-pub cleared_length : (r : ℕ → Bool) (n : ℕ) (old : List Float) {new : List Float} → length old ≡ n * n → new ≡ renewed r (λ a b. plus_zero) n old → length new ≡ length old
-cleared_length r n old l e = ap (λ (x : List Float). length x) e ∙ length-renewed r (λ a b. plus_zero) n old ∙ sym l

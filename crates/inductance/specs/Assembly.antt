@@ -2,8 +2,8 @@
 use Rattle.std.specs.Prelude.{◌≡◌, ◌↔◌, Bool, not, List, [], ◌∷◌, ◌++◌, ℕ, ◌*◌, eqb, length, Float}
 use Rattle.tri.specs.Quadrature.{quadrature_rule, NoSuchRule, is_unknown}
 use Rattle.tri.specs.declared.quadrature.QuadratureKind.{QuadratureKind}
-use Rattle.tri.specs.declared.quadrature.Rule.{Rule}
-use Rattle.tri.specs.declared.quadrature.Rule.TheVariants.{Known, Unknown}
+use Rattle.tri.specs.Quadrature.{Rule}
+use Rattle.std.specs.Prelude.{Some, None}
 use Rattle.refusal.specs.Numbers.{no_such_choice, output_length, zero_area}
 use Rattle.refusal.specs.Checks.{Check, check, first, after}
 use Rattle.mesh.specs.Mesh.{Mesh, nnode, mesh_checks, max_nodes, max_panels}
@@ -16,8 +16,8 @@ use Rattle.inductance.specs.Matrix.{cell, matrix}
 
 -- the block under a rule; without a rule the call is refused and no block is asked for
 abbrev pub block_under : Rule → Block
-block_under (Known kind) = mutual_inductance_block kind
-block_under Unknown = λ s t. []
+block_under (Some kind) = mutual_inductance_block kind
+block_under None = λ s t. []
 
 -- the matrix out with the cells of marked nodes' rows and columns fresh, under a rule that there is
 abbrev pub renewed_under : QuadratureKind → List Bool → Mesh → List Float → List Float

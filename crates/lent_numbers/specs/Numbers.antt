@@ -9,4 +9,4 @@ halves_of h = coordinates (get_or h 0 []) ++ coordinates (get_or h 1 [])
 
 -- corners (nine numbers), normal (three), edge tangents and outward edges (nine each), edge lengths (three), longest edge
 unfoldable pub record_numbers : UniformTriangle → List Float
-record_numbers p = p.nodes ++ p.normal ++ p.edge_tangent ++ p.edge_outward ++ p.edge_length ++ (p.max_edge ∷ [])
+record_numbers p = coordinates p.nodes ++ p.normal ++ coordinates p.edge_tangent ++ coordinates p.edge_outward ++ p.edge_length ++ (p.max_edge ∷ [])

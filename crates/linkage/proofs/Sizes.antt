@@ -8,6 +8,9 @@ use borrow.Author.Tests.{eqb-true, eq-eqb, leb-false}
 use lib.Dec.{eqb}
 use Rattle.refusal.specs.Numbers.{nodal_values}
 use Rattle.refusal.specs.Checks.{check, first, Clear}
+use Rattle.refusal.specs.Outcome.{number}
+use Rattle.refusal.specs.declared.Refusal.{Refusal}
+use Rattle.refusal.proofs.Outcome.{never_0}
 use Rattle.refusal.proofs.Checks.{none-applies, first-passed, first_stopped}
 use Rattle.refusal.proofs.Tests.{or_off, differ_off}
 use Rattle.lists.proofs.Stretches.{row_end}
@@ -20,10 +23,10 @@ and_off true b e h = h
 and_off false b e h = absurd (true≢false (sym e))
 
 -- ---- a matrix
-pub vectors_sized : (n t size r : ℕ) → r ≡ vectors_refusal n t size → r ≡ 0 → (t ≡ n) × (size ≡ n * n)
+pub vectors_sized : (n t size : ℕ) → 0 ≡ vectors_refusal n t size → (t ≡ n) × (size ≡ n * n)
 unfolding vectors_refusal
-vectors_sized n t size r e z =
-    let w = (none-applies (check nodal_values (not (eqb t n)) ∷ matrix_checks n size) tt).0 (sym e ∙ z) in
+vectors_sized n t size z =
+    let w = (none-applies (check nodal_values (not (eqb t n)) ∷ matrix_checks n size) tt).0 (sym z) in
     ((differ_off t n).0 w.0, (differ_off size (n * n)).0 w.1.1.0)
 
 -- one vector does not differ from itself
@@ -31,21 +34,20 @@ pub one-vector : (n size : ℕ) → vectors_refusal n n size ≡ energy_refusal 
 unfolding vectors_refusal energy_refusal first
 one-vector n size = rw (eq-eqb n n refl)
 
-pub matrix-row-sized : (size n node r : ℕ) → r ≡ matrix_row_refusal size n node → r ≡ 0 → node * n + n ≤ size
+pub matrix-row-sized : (size n node : ℕ) → 0 ≡ matrix_row_refusal size n node → node * n + n ≤ size
 unfolding matrix_row_refusal
-matrix-row-sized size n node r e z =
-    let w = (none-applies (matrix_checks n size ++ node_checks n node) tt).0 (sym e ∙ z) in
+matrix-row-sized size n node z =
+    let w = (none-applies (matrix_checks n size ++ node_checks n node) tt).0 (sym z) in
     rw ((differ_off size (n * n)).0 w.1.0) (row_end n n node (leb-false n node w.1.1.0))
 
 -- the matrix's number stops the call for a row, or the node decides
-module _ (size n node r : ℕ) (e : r ≡ energy_refusal n size) where
-  pub row_stopped : (r ≡ 0 → ⊥) → r ≡ matrix_row_refusal size n node
-  unfolding energy_refusal matrix_row_refusal
-  row_stopped h = e ∙ sym (first_stopped (matrix_checks n size) (node_checks n node) (λ z. h (e ∙ z)))
+pub row_stopped : (size n node : ℕ) (r : Refusal) → number r ≡ energy_refusal n size → number r ≡ matrix_row_refusal size n node
+unfolding energy_refusal matrix_row_refusal
+row_stopped size n node r e = e ∙ sym (first_stopped (matrix_checks n size) (node_checks n node) (λ z. never_0 r (e ∙ z)))
 
-  pub row-passed : (k : ℕ) → r ≡ 0 → k ≡ first (node_checks n node) → k ≡ matrix_row_refusal size n node
-  unfolding energy_refusal matrix_row_refusal
-  row-passed k z f = f ∙ sym (first-passed (matrix_checks n size) (node_checks n node) ((none-applies (matrix_checks n size) tt).0 (sym e ∙ z)))
+pub row-passed : (size n node : ℕ) → 0 ≡ energy_refusal n size → matrix_row_refusal size n node ≡ first (node_checks n node)
+unfolding energy_refusal matrix_row_refusal
+row-passed size n node z = first-passed (matrix_checks n size) (node_checks n node) ((none-applies (matrix_checks n size) tt).0 (sym z))
 
 -- ---- a map: whole rows, by cases on whether there are sources
 pub whole : (size sources : ℕ) → eqb sources 0 ≡ false → broken_rows size sources ≡ false → size ≡ size / sources * sources
@@ -54,12 +56,12 @@ whole size sources c h =
     let z : size % sources ≡ 0 = (differ_off (size % sources) 0).0 (and_off (not (eqb sources 0)) _ (rw c refl) h) in
     sym (rw z at (div-add-mod' size sources)) ∙ add-zero _
 
-pub map-sized : (size sources nodes r : ℕ) → r ≡ map_refusal size sources nodes → r ≡ 0 → size ≡ nodes * sources
+pub map-sized : (size sources nodes : ℕ) → 0 ≡ map_refusal size sources nodes → size ≡ nodes * sources
 unfolding map_refusal lacks_sources rows_differ
-map-sized size sources nodes r e z = go (eqb sources 0) refl
+map-sized size sources nodes z = go (eqb sources 0) refl
   where
     w : Clear (map_checks size sources nodes)
-    w = (none-applies (map_checks size sources nodes) tt).0 (sym e ∙ z)
+    w = (none-applies (map_checks size sources nodes) tt).0 (sym z)
 
     go : (t : Bool) → eqb sources 0 ≡ t → size ≡ nodes * sources
     go true c =
@@ -69,12 +71,12 @@ map-sized size sources nodes r e z = go (eqb sources 0) refl
         let d = (differ_off nodes (size / sources)).0 (and_off (not (eqb sources 0)) _ (rw c refl) w.1.1.0) in
         whole size sources c w.1.0 ∙ ap (λ (k : ℕ). k * sources) (sym d)
 
-pub map-row-sized : (size sources node r : ℕ) → r ≡ map_row_refusal size sources node → r ≡ 0 → node * sources + sources ≤ size
+pub map-row-sized : (size sources node : ℕ) → 0 ≡ map_row_refusal size sources node → node * sources + sources ≤ size
 unfolding map_row_refusal row_count
-map-row-sized size sources node r e z = go (eqb sources 0) refl
+map-row-sized size sources node z = go (eqb sources 0) refl
   where
     w : Clear (map_row_checks size sources node)
-    w = (none-applies (map_row_checks size sources node) tt).0 (sym e ∙ z)
+    w = (none-applies (map_row_checks size sources node) tt).0 (sym z)
 
     go : (t : Bool) → eqb sources 0 ≡ t → node * sources + sources ≤ size
     go true c = absurd (not-suc-le-zero (leb-false 0 node (rw c at w.1.1.0)))

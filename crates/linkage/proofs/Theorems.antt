@@ -193,7 +193,7 @@ map_numbered size sources nodes =
         λ h. w10.1 ((lacks-some size sources h.0 nodes, (whole_off size sources h.0 h.1, tt)), apart h),
       );
       is_0 = (
-        (λ e. let v = w0.0 e in (map-sized size sources nodes 0 (sym e) refl, λ z. (lacks_off size sources nodes v.0 z).1)),
+        (λ e. let v = w0.0 e in (map-sized size sources nodes (sym e), λ z. (lacks_off size sources nodes v.0 z).1)),
         λ h. w0.1 (clear (sources_or sources) h),
       );
     }
@@ -321,9 +321,9 @@ row_empty r m w i fits some = (
 pub matrix-row_empty : (m : List Float) (n node : ℕ) → (matrix_row m n node ≡ []) ↔ (matrix_row_refusal (length m) n node ≡ 0 → ⊥)
 matrix-row_empty m n node =
     let r = matrix_row_refusal (length m) n node in
-    row_empty r m n node (λ z. matrix-row-sized (length m) n node r refl z) (λ z. omega (arith, ((matrix-row_numbered (length m) n node).is_0.0 z).2))
+    row_empty r m n node (λ z. matrix-row-sized (length m) n node (sym z)) (λ z. omega (arith, ((matrix-row_numbered (length m) n node).is_0.0 z).2))
 
 pub map-row_empty : (m : List Float) (sources node : ℕ) → (map_row m sources node ≡ []) ↔ (map_row_refusal (length m) sources node ≡ 0 → ⊥)
 map-row_empty m sources node =
     let r = map_row_refusal (length m) sources node in
-    row_empty r m sources node (λ z. map-row-sized (length m) sources node r refl z) (λ z. pos_of_ne-zero ((map-row_numbered (length m) sources node).is_0.0 z).0)
+    row_empty r m sources node (λ z. map-row-sized (length m) sources node (sym z)) (λ z. pos_of_ne-zero ((map-row_numbered (length m) sources node).is_0.0 z).0)

@@ -1,11 +1,14 @@
 // A map of one row a node and one column a source, applied to source coefficients.
 ghost use Rattle.std.specs.Prelude.{◌≡◌, ◌<◌, ◌≤◌, ◌+◌, ◌*◌, length};
+ghost use Rattle.binary64.specs.Binary64.{plus_zero};
+ghost use Rattle.refusal.specs.Outcome.{number_of, value_or};
 ghost use Rattle.linkage.specs.Flux as Spec;
 ghost use Rattle.linkage.specs.Flux.{Linked};
 
-use refusal::Answer;
+use refusal::Refusal;
 
 // 8
+#[tactic(auto, unfolding(crate::specs::Flux::lacks_sources))]
 pub fn lacks_sources(size: usize, sources: usize, nodes: usize) -> bool
     ensures { result ≡ Spec.lacks_sources size sources nodes }
 {
@@ -13,50 +16,47 @@ pub fn lacks_sources(size: usize, sources: usize, nodes: usize) -> bool
 }
 
 // 9
+#[tactic(auto, unfolding(crate::specs::Flux::broken_rows))]
 pub fn broken_rows(size: usize, sources: usize) -> bool
     ensures { result ≡ Spec.broken_rows size sources }
 {
-    if sources == 0 {
-        return false;
-    }
-    size % sources != 0
+    sources != 0 && size % sources != 0
 }
 
 // 10
+#[tactic(auto, unfolding(crate::specs::Flux::rows_differ))]
 fn rows_differ(size: usize, sources: usize, nodes: usize) -> bool
     ensures { result ≡ Spec.rows_differ size sources nodes }
 {
-    if sources == 0 {
-        return false;
-    }
-    nodes != size / sources
+    sources != 0 && nodes != size / sources
 }
 
 // 8, 9 and 10. No product is formed: there is no limit on the sizes.
-fn map_refusal(size: usize, sources: usize, nodes: usize) -> u32
-    ensures { result ≡ Spec.map_refusal size sources nodes }
+#[tactic(auto, unfolding(crate::specs::Flux::map_refusal, refusal::specs::Checks::first))]
+fn check_map(size: usize, sources: usize, nodes: usize) -> Result<(), Refusal>
+    ensures { number_of result ≡ Spec.map_refusal size sources nodes }
 {
     if lacks_sources(size, sources, nodes) {
-        return refusal::COEFFICIENTS;
+        return Err(Refusal::Coefficients);
     }
     if broken_rows(size, sources) {
-        return refusal::MAP_LENGTH;
+        return Err(Refusal::Map);
     }
     if rows_differ(size, sources, nodes) {
-        return refusal::FLUX_LENGTH;
+        return Err(Refusal::Flux);
     }
-    0
+    Ok(())
 }
 
 // The flux of one row: its products with the coefficients, added one after the other from +0 on.
+#[tactic(auto, using(lists::proofs::Sums::sum_more), unfolding(lists::specs::Sums::running_sum))]
 pub fn flux_of_row(row: &[f64], coefficients: &[f64]) -> f64
     requires { length row.now ≡ length coefficients.now }
     ensures { result ≡ Spec.flux_of_row row.now coefficients.now }
 {
-    let n = coefficients.len();
     let mut psi = 0.0;
-    for k in 0..n {
-        psi = psi + row[k] * coefficients[k];
+    for (entry, coefficient) in row.iter().zip(coefficients) {
+        psi += entry * coefficient;
     }
     psi
 }
@@ -75,10 +75,8 @@ fn fill_flux(map: &[f64], coefficients: &[f64], out: &mut [f64])
     requires { length map.now ≡ length out.old * length coefficients.now }
     ensures { out.new ≡ Spec.flux_linkage map.now coefficients.now (length out.old) }
 {
-    let mut i = 0;
-    while i < out.len() {
-        out[i] = row_flux(map, coefficients, i);
-        i += 1;
+    for (i, flux) in out.iter_mut().enumerate() {
+        *flux = row_flux(map, coefficients, i);
     }
 }
 
@@ -87,26 +85,23 @@ pub fn triangle_mesh_flux_linkage_from_source_coefficients(
     map: &[f64],
     coefficients: &[f64],
     out: &mut [f64],
-) -> u32
-    ensures { Linked map.now coefficients.now out.old result out.new }
+) -> Result<(), Refusal>
+    ensures { Linked map.now coefficients.now out.old (number_of result) out.new }
 {
-    let refusal = map_refusal(map.len(), coefficients.len(), out.len());
-    if refusal != 0 {
-        return refusal;
-    }
+    check_map(map.len(), coefficients.len(), out.len())?;
     fill_flux(map, coefficients, out);
-    0
+    Ok(())
 }
 
 // Nodal values times flux, over all rows.
+#[tactic(auto, using(lists::proofs::Sums::sum_more), unfolding(lists::specs::Sums::running_sum))]
 fn add_interaction(map: &[f64], values: &[f64], coefficients: &[f64]) -> f64
     requires { length map.now ≡ length values.now * length coefficients.now }
     ensures { result ≡ Spec.interaction_energy map.now values.now coefficients.now }
 {
-    let n = values.len();
     let mut out = 0.0;
-    for i in 0..n {
-        out = out + values[i] * row_flux(map, coefficients, i);
+    for (i, value) in values.iter().enumerate() {
+        out += value * row_flux(map, coefficients, i);
     }
     out
 }
@@ -116,18 +111,9 @@ pub fn triangle_mesh_interaction_energy_from_source_coefficients(
     map: &[f64],
     values: &[f64],
     coefficients: &[f64],
-) -> Answer
-    ensures { Spec.InteractionAnswered map.now values.now coefficients.now result.refusal result.value }
+) -> Result<f64, Refusal>
+    ensures { Spec.InteractionAnswered map.now values.now coefficients.now (number_of result) (value_or plus_zero result) }
 {
-    let refusal = map_refusal(map.len(), coefficients.len(), values.len());
-    if refusal != 0 {
-        return Answer {
-            refusal: refusal,
-            value: 0.0,
-        };
-    }
-    Answer {
-        refusal: 0,
-        value: add_interaction(map, values, coefficients),
-    }
+    check_map(map.len(), coefficients.len(), values.len())?;
+    Ok(add_interaction(map, values, coefficients))
 }

@@ -1,11 +1,12 @@
--- Bytes put into a buffer one behind the other: a loop that writes a list's bytes ends in `Put` (`put_run`), two puts in a row are one (`both`), and a buffer put full is the bytes. Assumes nothing.
+-- Elements put into a buffer one behind the other: a loop that writes a list's bytes ends in `Put` (`put_run`), two puts in a row are one (`both`), a put is a paste, and a buffer put full is the
+-- elements. Assumes nothing.
 use mathlib.Core.Path.{◌≡◌, sym, ap, ◌∙◌}
 use mathlib.Core.List.{List, [], ◌++◌, append_assoc, append-nil}
 use Prim.Native.Nat.{ℕ, ◌+◌, ◌≤◌}
 use native.Mathlib.Nat.{add-zero, zero-add}
 use native.Mathlib.Omega.{arith}
 use lib.ListN.{length, get_or, take, drop, length-append, take-append-drop}
-use lib.Seq.{take-length, take_at, drop-length, drop-append-add, drop-drop, length-take-le}
+use lib.Seq.{paste, take-length, take_at, drop-length, drop-append-add, drop-drop, length-take-le}
 use Rattle.lists.specs.Putting.{Put}
 use Rattle.lists.proofs.Runs.{RunTo, all_put}
 
@@ -22,7 +23,7 @@ put_run {held} {from} {bytes} {k} to r l u =
     }
 
 -- nothing put
-pub none : (held : List ℕ) (from : ℕ) → Put held from [] held from
+pub none : {A : Type 0} (held : List A) (from : ℕ) → Put held from [] held from
 none held from =
     record {
       behind = sym (add-zero from);
@@ -30,7 +31,7 @@ none held from =
     }
 
 -- one behind the other
-module _ (held : List ℕ) (from : ℕ) (a : List ℕ) (mid : List ℕ) (r : ℕ) (b left : List ℕ) (s : ℕ) (room : from + length a ≤ length held) where
+module _ {A : Type 0} (held : List A) (from : ℕ) (a : List A) (mid : List A) (r : ℕ) (b left : List A) (s : ℕ) (room : from + length a ≤ length held) where
   pub both : Put held from a mid r → Put mid r b left s → Put held from (a ++ b) left s
   both p q =
       let n = from + length a in
@@ -46,13 +47,21 @@ module _ (held : List ℕ) (from : ℕ) (a : List ℕ) (mid : List ℕ) (r : ℕ
         leaves = q.leaves
             ∙ (λ i. front i ++ (b ++ rest i))
             ∙ append_assoc (take from held) a (b ++ drop (from + length (a ++ b)) held)
-            ∙ ap (λ (x : List ℕ). take from held ++ x) (sym (append_assoc a b (drop (from + length (a ++ b)) held)));
+            ∙ ap (λ (x : List A). take from held ++ x) (sym (append_assoc a b (drop (from + length (a ++ b)) held)));
       }
 
--- a buffer that is put full holds the bytes alone
-pub put_whole : (held bytes left : List ℕ) (to : ℕ) → length held ≡ length bytes → Put held 0 bytes left to → left ≡ bytes
-put_whole held bytes left to e p =
+-- a buffer that is put full holds the elements alone
+pub put_whole : {A : Type 0} (held items left : List A) (to : ℕ) → length held ≡ length items → Put held 0 items left to → left ≡ items
+put_whole {A} held items left to e p =
     p.leaves
-    ∙ ap (λ (k : ℕ). bytes ++ drop k held) (zero-add (length bytes) ∙ sym e)
-    ∙ ap (λ (r : List ℕ). bytes ++ r) (drop-length held)
-    ∙ append-nil bytes
+    ∙ ap (λ (k : ℕ). items ++ drop k held) (zero-add (length items) ∙ sym e)
+    ∙ ap (λ (r : List A). items ++ r) (drop-length held)
+    ∙ append-nil items
+
+-- the same as a paste
+pub put_pastes : {A : Type 0} {held : List A} {from : ℕ} {items left : List A} {to : ℕ} → Put held from items left to → left ≡ paste held from items (length items)
+put_pastes {A} {held} {from} {items} p =
+    let n = length items in
+    p.leaves
+    ∙ sym (append_assoc (take from held) items (drop (from + n) held))
+    ∙ sym (ap (λ (x : List A). take from held ++ x ++ drop (from + n) held) (take-length items))

@@ -9,6 +9,9 @@ use borrow.Author.Tests.{leb-true, leb-false, lt-leb, ltb-false, le-ltb, eq-eqb}
 use lib.Dec.{T, leb}
 use lib.ListN.{length, get_or}
 use Rattle.refusal.proofs.Tests.{on, or_off, or_on, differ_off}
+use Rattle.refusal.specs.Outcome.{number}
+use Rattle.refusal.specs.declared.Refusal.{Refusal}
+use Rattle.refusal.proofs.Outcome.{never_0}
 use Rattle.refusal.specs.Checks.{Check, check, first, Clear, lacks}
 use Rattle.refusal.proofs.Checks.{none-applies, applies-first, first_stopped, first-passed}
 use Rattle.lists.specs.Counting.{any_of, some_below}
@@ -140,6 +143,16 @@ mesh_stopped n p m ds r e h = e ∙ sym (first_stopped (mesh_checks n p m) ds (�
 pub mesh-passed : (n p : ℕ) (m : Mesh) (ds : List Check) (r : ℕ) → r ≡ mesh_refusal n p m → r ≡ 0 → first (mesh_checks n p m ++ ds) ≡ first ds
 unfolding mesh_refusal mesh_checks
 mesh-passed n p m ds r e h = first-passed (mesh_checks n p m) ds ((none-applies (mesh_checks n p m) tt).0 (sym e ∙ h))
+
+-- the same where a `Result` says it: the mesh's refusal, or a mesh that is done with
+pub refused_by : (n p : ℕ) (m : Mesh) (ds : List Check) (r : Refusal) → number r ≡ mesh_refusal n p m → number r ≡ first (mesh_checks n p m ++ ds)
+refused_by n p m ds r e = mesh_stopped n p m ds (number r) e (never_0 r)
+
+pub done_passed : (n p : ℕ) (m : Mesh) (ds : List Check) → 0 ≡ mesh_refusal n p m → first (mesh_checks n p m ++ ds) ≡ first ds
+done_passed n p m ds e = mesh-passed n p m ds 0 e (λ i. 0)
+
+pub done_accepted : (n p : ℕ) (m : Mesh) → 0 ≡ mesh_refusal n p m → Accepted n p m
+done_accepted n p m e = (numbered n p m).is_0.0 (sym e)
 
 -- a call that was done: its mesh is accepted and none of the checks after the mesh's applies
 pub mesh-accepted : (n p : ℕ) (m : Mesh) (ds : List Check) → T (lacks 0 ds) → first (mesh_checks n p m ++ ds) ≡ 0 → Accepted n p m × Clear ds

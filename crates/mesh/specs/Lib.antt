@@ -1,2 +1,3 @@
-pub mod Mesh
+pub mod Columns
 pub mod Conditions
+pub mod Mesh

@@ -1,57 +1,26 @@
-// src/mesh/triangle3d.rs: the test of a triangle mesh in column form, with document 01's numbers.
-// A mesh is six lent columns: the coordinates x, y, z of the nodes, and for each panel the nodes
-// t0, t1, t2 of its corners.
+// src/mesh/triangle3d.rs: the test of a triangle mesh in column form, with document 01's refusals.
 #![tactic(auto)]
 
-ghost use Rattle.std.specs.Prelude.{◌≡◌, [], ◌<◌, length};
+ghost use Rattle.std.specs.Prelude.{◌≡◌, ◌<◌, length};
 ghost use Rattle.lists.specs.Counting.{triple};
-ghost use Rattle.mesh.specs.Conditions.{NodeColumnsAlike, PanelColumnsAlike, Below, NoneMissing, Tested};
+ghost use Rattle.mesh.specs.Columns.{viewed, viewed_panels};
+ghost use Rattle.mesh.specs.Conditions.{NodeColumnsAlike, PanelColumnsAlike, NoneMissing, Tested};
 ghost use Rattle.mesh.specs.Mesh as Spec;
-ghost use Rattle.mesh.specs.Mesh.{mesh_of, max_nodes, max_panels, passed_mesh, lent_mesh};
+ghost use Rattle.mesh.specs.Mesh.{max_nodes, max_panels};
+ghost use Rattle.refusal.specs.Outcome.{number_of, value_or};
+
+pub mod columns;
+
+use columns::{PanelColumns, TriangleMeshView};
+use refusal::Refusal;
 
 // The limits of every call but the program `density`.
 pub const MAX_NODES: usize = 4096;
 
 pub const MAX_PANELS: usize = 8192;
 
-// The coordinates of a node.
-pub fn node(x: &[f64], y: &[f64], z: &[f64], k: usize) -> [f64; 3]
-    requires { (k < length x.now) × (k < length y.now) × (k < length z.now) }
-    ensures { result ≡ Spec.node (mesh_of x.now y.now z.now [] [] []) k }
-{
-    [x[k], y[k], z[k]]
-}
-
-// The nodes of panel i.
-pub fn triangle_indices(t0: &[usize], t1: &[usize], t2: &[usize], i: usize) -> [usize; 3]
-    requires { (i < length t0.now) × (i < length t1.now) × (i < length t2.now) }
-    ensures { result ≡ Spec.triangle_indices (mesh_of [] [] [] t0.now t1.now t2.now) i }
-{
-    [t0[i], t1[i], t2[i]]
-}
-
-// The corners of panel i.
-pub fn triangle_nodes(
-    x: &[f64],
-    y: &[f64],
-    z: &[f64],
-    t0: &[usize],
-    t1: &[usize],
-    t2: &[usize],
-    i: usize,
-) -> [[f64; 3]; 3]
-    requires node_columns_alike { NodeColumnsAlike (lent_mesh x y z t0 t1 t2) }
-    requires panel_columns_alike { PanelColumnsAlike (lent_mesh x y z t0 t1 t2) }
-    requires i_in_bounds { (i < length t0.now) × Below (lent_mesh x y z t0 t1 t2) i }
-    ensures { result ≡ Spec.triangle_nodes (passed_mesh x y z t0 t1 t2) i }
-{
-    let a = node(x, y, z, t0[i]);
-    let b = node(x, y, z, t1[i]);
-    let c = node(x, y, z, t2[i]);
-    [a, b, c]
-}
-
 // 1 and 2: three lengths that are not one.
+#[tactic(auto, unfolding(crate::specs::Mesh::lengths_differ))]
 pub fn lengths_differ(a: usize, b: usize, c: usize) -> bool
     ensures { result ≡ Spec.lengths_differ a b c }
 {
@@ -59,6 +28,7 @@ pub fn lengths_differ(a: usize, b: usize, c: usize) -> bool
 }
 
 // 11
+#[tactic(auto, unfolding(crate::specs::Mesh::passes_limits))]
 pub fn passes_limits(nodes: usize, panels: usize, n: usize, p: usize) -> bool
     ensures { result ≡ Spec.passes_limits nodes panels n p }
 {
@@ -66,6 +36,7 @@ pub fn passes_limits(nodes: usize, panels: usize, n: usize, p: usize) -> bool
 }
 
 // 3, of one panel
+#[tactic(auto, unfolding(crate::specs::Mesh::misses_node, lists::specs::Counting::any_of))]
 pub fn misses_node(n: usize, indices: [usize; 3]) -> bool
     ensures { result ≡ Spec.misses_node n (triple indices) }
 {
@@ -73,21 +44,20 @@ pub fn misses_node(n: usize, indices: [usize; 3]) -> bool
 }
 
 // 3, over all panels
-fn some_misses_node(n: usize, t0: &[usize], t1: &[usize], t2: &[usize]) -> bool
-    requires { PanelColumnsAlike (mesh_of [] [] [] t0.now t1.now t2.now) }
-    ensures { result ≡ Spec.some_misses n (mesh_of [] [] [] t0.now t1.now t2.now) }
+fn some_misses_node(n: usize, panels: &PanelColumns) -> bool
+    requires { PanelColumnsAlike (viewed_panels panels.now) }
+    ensures { result ≡ Spec.some_misses n (viewed_panels panels.now) }
 {
-    let mut i = 0;
-    while i < t0.len() {
-        if misses_node(n, triangle_indices(t0, t1, t2, i)) {
+    for i in 0..panels.t0.len() {
+        if misses_node(n, panels.triangle_indices(i)) {
             return true;
         }
-        i += 1;
     }
     false
 }
 
 // 4, of one panel
+#[tactic(auto, unfolding(crate::specs::Mesh::is_zero_area))]
 pub fn is_zero_area(t: [[f64; 3]; 3]) -> bool
     ensures { result ≡ Spec.is_zero_area t }
 {
@@ -95,68 +65,60 @@ pub fn is_zero_area(t: [[f64; 3]; 3]) -> bool
 }
 
 // 4, over all panels
-fn some_zero_area(x: &[f64], y: &[f64], z: &[f64], t0: &[usize], t1: &[usize], t2: &[usize]) -> bool
-    requires node_columns_alike { NodeColumnsAlike (lent_mesh x y z t0 t1 t2) }
-    requires panel_columns_alike { PanelColumnsAlike (lent_mesh x y z t0 t1 t2) }
-    requires none_missing { NoneMissing (lent_mesh x y z t0 t1 t2) }
-    ensures { result ≡ Spec.some_zero_area (passed_mesh x y z t0 t1 t2) }
+fn some_zero_area(mesh: &TriangleMeshView) -> bool
+    requires node_columns_alike { NodeColumnsAlike (viewed mesh.now) }
+    requires panel_columns_alike { PanelColumnsAlike (viewed mesh.now) }
+    requires none_missing { NoneMissing (viewed mesh.now) }
+    ensures { result ≡ Spec.some_zero_area (viewed mesh.now) }
 {
-    let mut i = 0;
-    while i < t0.len() {
-        if is_zero_area(triangle_nodes(x, y, z, t0, t1, t2, i)) {
+    for i in 0..mesh.ntri() {
+        if is_zero_area(mesh.triangle_nodes(i)) {
             return true;
         }
-        i += 1;
     }
     false
 }
 
-// The number of a mesh under the limits of a call, 0 if it is accepted.
-pub fn mesh_refusal_within(
+// A mesh under the limits of a call.
+#[tactic(auto, unfolding(crate::specs::Mesh::mesh_refusal, crate::specs::Mesh::mesh_checks, refusal::specs::Checks::first))]
+pub fn check_mesh_within(
     nodes: usize,
     panels: usize,
-    x: &[f64],
-    y: &[f64],
-    z: &[f64],
-    t0: &[usize],
-    t1: &[usize],
-    t2: &[usize],
-) -> u32
-    ensures { result ≡ Spec.mesh_refusal nodes panels (passed_mesh x y z t0 t1 t2) }
+    mesh: &TriangleMeshView,
+) -> Result<(), Refusal>
+    ensures { number_of result ≡ Spec.mesh_refusal nodes panels (viewed mesh.now) }
 {
-    if lengths_differ(x.len(), y.len(), z.len()) {
-        return refusal::NODE_COLUMNS;
+    if lengths_differ(mesh.nodes.x.len(), mesh.nodes.y.len(), mesh.nodes.z.len()) {
+        return Err(Refusal::NodeColumns);
     }
-    if lengths_differ(t0.len(), t1.len(), t2.len()) {
-        return refusal::PANEL_COLUMNS;
+    if lengths_differ(
+        mesh.panels.t0.len(),
+        mesh.panels.t1.len(),
+        mesh.panels.t2.len(),
+    ) {
+        return Err(Refusal::PanelColumns);
     }
-    if passes_limits(nodes, panels, x.len(), t0.len()) {
-        return refusal::TOO_LARGE;
+    if passes_limits(nodes, panels, mesh.nnode(), mesh.ntri()) {
+        return Err(Refusal::TooLarge);
     }
-    if some_misses_node(x.len(), t0, t1, t2) {
-        return refusal::MISSING_NODE;
+    if some_misses_node(mesh.nnode(), &mesh.panels) {
+        return Err(Refusal::MissingNode);
     }
-    if some_zero_area(x, y, z, t0, t1, t2) {
-        return refusal::ZERO_AREA;
+    if some_zero_area(mesh) {
+        return Err(Refusal::ZeroArea);
     }
-    0
+    Ok(())
 }
 
-// The number of a mesh under document 01's limits.
-pub fn mesh_refusal(
-    x: &[f64],
-    y: &[f64],
-    z: &[f64],
-    t0: &[usize],
-    t1: &[usize],
-    t2: &[usize],
-) -> u32
-    ensures { result ≡ Spec.mesh_refusal max_nodes max_panels (passed_mesh x y z t0 t1 t2) }
+// A mesh under document 01's limits.
+pub fn check_mesh(mesh: &TriangleMeshView) -> Result<(), Refusal>
+    ensures { number_of result ≡ Spec.mesh_refusal max_nodes max_panels (viewed mesh.now) }
 {
-    mesh_refusal_within(MAX_NODES, MAX_PANELS, x, y, z, t0, t1, t2)
+    check_mesh_within(MAX_NODES, MAX_PANELS, mesh)
 }
 
 // The square of the distance of two points: nothing fused.
+#[tactic(auto, unfolding(crate::specs::Mesh::edge_sq))]
 fn edge_sq(a: [f64; 3], b: [f64; 3]) -> f64
     ensures { result ≡ Spec.edge_sq a b }
 {
@@ -167,6 +129,7 @@ fn edge_sq(a: [f64; 3], b: [f64; 3]) -> f64
 }
 
 // 1 for equal edges, towards 0 for a sliver.
+#[tactic(auto, unfolding(crate::specs::Mesh::quality))]
 pub fn triangle_quality(t: [[f64; 3]; 3]) -> f64
     ensures { result ≡ Spec.quality t }
 {
@@ -175,6 +138,7 @@ pub fn triangle_quality(t: [[f64; 3]; 3]) -> f64
     4.0 * ieee754::sqrt(3.0) * area / edge_sum
 }
 
+#[tactic(auto, unfolding(crate::specs::Mesh::is_poor))]
 fn is_poor(t: [[f64; 3]; 3]) -> bool
     ensures { result ≡ Spec.is_poor t }
 {
@@ -182,50 +146,26 @@ fn is_poor(t: [[f64; 3]; 3]) -> bool
 }
 
 // The number of poor panels: the original warns about each.
-fn count_poor(x: &[f64], y: &[f64], z: &[f64], t0: &[usize], t1: &[usize], t2: &[usize]) -> usize
-    requires node_columns_alike { NodeColumnsAlike (lent_mesh x y z t0 t1 t2) }
-    requires panel_columns_alike { PanelColumnsAlike (lent_mesh x y z t0 t1 t2) }
-    requires none_missing { NoneMissing (lent_mesh x y z t0 t1 t2) }
-    ensures { result ≡ Spec.poor_panels (passed_mesh x y z t0 t1 t2) }
+fn count_poor(mesh: &TriangleMeshView) -> usize
+    requires node_columns_alike { NodeColumnsAlike (viewed mesh.now) }
+    requires panel_columns_alike { PanelColumnsAlike (viewed mesh.now) }
+    requires none_missing { NoneMissing (viewed mesh.now) }
+    ensures { result ≡ Spec.poor_panels (viewed mesh.now) }
 {
     let mut poor: usize = 0;
-    let mut i = 0;
-    while i < t0.len() {
-        if is_poor(triangle_nodes(x, y, z, t0, t1, t2, i)) {
+    for i in 0..mesh.ntri() {
+        if is_poor(mesh.triangle_nodes(i)) {
             poor += 1;
         }
-        i += 1;
     }
     poor
 }
 
-// The answer of the mesh test: the number, and the count of poor panels, 0 on a refusal.
-#[derive(Clone, Copy)]
-pub struct MeshTest {
-    pub refusal: u32,
-    pub poor: usize,
-}
-
-// The mesh test, on any six columns.
-pub fn validate_triangle_mesh_geometry(
-    x: &[f64],
-    y: &[f64],
-    z: &[f64],
-    t0: &[usize],
-    t1: &[usize],
-    t2: &[usize],
-) -> MeshTest
-    ensures { Tested (passed_mesh x y z t0 t1 t2) result.refusal result.poor }
+// The mesh test, on any six columns: the count of poor panels.
+#[tactic(auto, unfolding(crate::specs::Mesh::tested_count))]
+pub fn validate_triangle_mesh_geometry(mesh: &TriangleMeshView) -> Result<usize, Refusal>
+    ensures { Tested (viewed mesh.now) (number_of result) (value_or 0 result) }
 {
-    let refusal = mesh_refusal(x, y, z, t0, t1, t2);
-    if refusal != 0 {
-        return MeshTest {
-            refusal: refusal,
-            poor: 0,
-        };
-    }
-    MeshTest {
-        refusal: 0,
-        poor: count_poor(x, y, z, t0, t1, t2),
-    }
+    check_mesh(mesh)?;
+    Ok(count_poor(mesh))
 }

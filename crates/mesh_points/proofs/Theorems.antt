@@ -3,8 +3,8 @@ use mathlib.Core.Path.{◌≡◌, refl, sym, subst}
 use mathlib.Core.List.{List, [], ◌∷◌, ◌++◌}
 use Prim.Native.Nat.{ℕ, ◌*◌}
 use Rattle.tri.specs.Quadrature.{quadrature_rule, NoSuchRule, is_unknown}
-use Rattle.tri.specs.declared.quadrature.Rule.{Rule}
-use Rattle.tri.specs.declared.quadrature.Rule.TheVariants.{Known, Unknown}
+use Rattle.tri.specs.Quadrature.{Rule}
+use Rattle.std.specs.Prelude.{Some, None}
 use Rattle.refusal.specs.Numbers.{no_such_choice, output_length}
 use Rattle.refusal.specs.Checks.{Check, check, first}
 use Rattle.refusal.proofs.Checks.{applies-first}
@@ -21,8 +21,8 @@ module _ (m : Mesh) (lx ly lz lw : ℕ) where
 
   one_list : (rule : Rule) → rule_refusal rule m lx ly lz lw ≡ first (check no_such_choice (is_unknown rule) ∷ mesh_checks max_nodes max_panels m ++ behind rule)
   unfolding points_refusal first
-  one_list (Known kind) = refl
-  one_list Unknown = refl
+  one_list (Some kind) = refl
+  one_list None = refl
 
   pub points_numbered : (number : ℕ) → PointsNumbered number m lx ly lz lw (rule_refusal (quadrature_rule number) m lx ly lz lw)
   points_numbered number =

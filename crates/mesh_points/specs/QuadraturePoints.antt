@@ -5,8 +5,8 @@ use Rattle.math.specs.Math.{Vec}
 use Rattle.tri.specs.Mapping.{Tri, area, map_point}
 use Rattle.tri.specs.Quadrature.{quadrature_row, quadrature_count, quadrature_rule, NoSuchRule}
 use Rattle.tri.specs.declared.quadrature.QuadratureKind.{QuadratureKind}
-use Rattle.tri.specs.declared.quadrature.Rule.{Rule}
-use Rattle.tri.specs.declared.quadrature.Rule.TheVariants.{Known, Unknown}
+use Rattle.tri.specs.Quadrature.{Rule}
+use Rattle.std.specs.Prelude.{Some, None}
 use Rattle.refusal.specs.Numbers.{output_length, no_such_choice, zero_area}
 use Rattle.refusal.specs.Checks.{Check, check, first, after}
 use Rattle.lists.specs.Columns.{columns_differ, ColumnsDue}
@@ -43,14 +43,14 @@ unfoldable pub points_refusal : QuadratureKind → Mesh → ℕ → ℕ → ℕ 
 points_refusal kind m lx ly lz lw = first (mesh_checks max_nodes max_panels m ++ point_checks kind (ntri m) lx ly lz lw)
 
 abbrev pub rule_refusal : Rule → Mesh → ℕ → ℕ → ℕ → ℕ → ℕ
-rule_refusal (Known kind) m lx ly lz lw = points_refusal kind m lx ly lz lw
-rule_refusal Unknown m lx ly lz lw = no_such_choice
+rule_refusal (Some kind) m lx ly lz lw = points_refusal kind m lx ly lz lw
+rule_refusal None m lx ly lz lw = no_such_choice
 
 -- ---- the numbers by their conditions
 -- how many points a panel has; none without a rule
 abbrev pub points_in : Rule → ℕ
-points_in (Known kind) = quadrature_count kind
-points_in Unknown = 0
+points_in (Some kind) = quadrature_count kind
+points_in None = 0
 
 -- not 6: each output has one number a point
 pub record PointColumnsDue (points lx ly lz lw : ℕ) : Type 0 where
@@ -71,12 +71,12 @@ pub record PointsNumbered (number : ℕ) (m : Mesh) (lx ly lz lw r : ℕ) : Type
 -- ---- what the call leaves
 -- what is due under a rule; with no such rule nothing is written
 abbrev pub points_due : Rule → Mesh → ℕ → List Float
-points_due (Known kind) m c = mesh_points kind m c
-points_due Unknown m c = []
+points_due (Some kind) m c = mesh_points kind m c
+points_due None m c = []
 
 abbrev pub weights_due : Rule → Mesh → List Float
-weights_due (Known kind) m = mesh_weights kind m
-weights_due Unknown m = []
+weights_due (Some kind) m = mesh_weights kind m
+weights_due None m = []
 
 -- four columns with a point and a weight at index i
 pub record StoredPoint (px py pz pw : List Float) (i : ℕ) (v : Vec) (weight : Float) (px' py' pz' pw' : List Float) : Type 0 where
@@ -129,4 +129,4 @@ abbrev pub PointsBy : ℕ → Mesh → List Float → List Float → List Float 
 PointsBy number m px py pz pw r px' py' pz' pw' = Points (quadrature_rule number) m px py pz pw r px' py' pz' pw'
 
 abbrev pub PointsUnder : QuadratureKind → Mesh → List Float → List Float → List Float → List Float → ℕ → List Float → List Float → List Float → List Float → Type 0
-PointsUnder kind m px py pz pw r px' py' pz' pw' = Points (Known kind) m px py pz pw r px' py' pz' pw'
+PointsUnder kind m px py pz pw r px' py' pz' pw' = Points (Some kind) m px py pz pw r px' py' pz' pw'

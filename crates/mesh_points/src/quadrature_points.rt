@@ -2,14 +2,17 @@
 ghost use Rattle.std.specs.Prelude.{◌≡◌, ◌<◌, ◌+◌};
 ghost use Rattle.binary64.specs.Binary64.{at, ◌⊗◌};
 ghost use Rattle.tri.specs.Quadrature.{quadrature_count, quadrature_row};
-ghost use Rattle.tri.specs.declared.quadrature.Rule.TheVariants.{Known};
-ghost use Rattle.mesh.specs.Mesh.{passed_mesh, lent_mesh};
+ghost use Rattle.mesh.specs.Columns.{viewed};
+ghost use Rattle.refusal.specs.Outcome.{number_of};
 ghost use Rattle.mesh_points.specs.QuadraturePoints as Spec;
 ghost use Rattle.mesh_points.specs.QuadraturePoints.{StoredPoint, Within, PointsReady, PointsWritten, PointsBy, PointsUnder};
 
-use tri::quadrature::{QuadratureKind, Rule};
+use mesh::columns::TriangleMeshView;
+use refusal::Refusal;
+use tri::quadrature::QuadratureKind;
 
 // Point k of a rule on a triangle.
+#[tactic(auto, unfolding(crate::specs::QuadraturePoints::quadrature_point))]
 fn quadrature_point(kind: QuadratureKind, t: [[f64; 3]; 3], k: usize) -> [f64; 3]
     requires { k < quadrature_count kind }
     ensures { result ≡ Spec.quadrature_point kind t k }
@@ -27,7 +30,7 @@ fn quadrature_weight(kind: QuadratureKind, area: f64, k: usize) -> f64
     row[0] * area
 }
 
-// A point and its weight, into the four outputs at i.
+// A point and its weight, into the four outputs at i, here and below as the C function lends them.
 fn store_point(
     px: &mut [f64],
     py: &mut [f64],
@@ -61,123 +64,80 @@ fn fill_panel(
 {
     let area = tri::mapping::area(t);
     let count = tri::quadrature::quadrature_count(kind);
-    let mut k = 0;
-    while k < count {
+    for k in 0..count {
         let point = quadrature_point(kind, t, k);
         let weight = quadrature_weight(kind, area, k);
         store_point(px, py, pz, pw, start + k, point, weight);
-        k += 1;
     }
 }
 
 // The points and weights of all panels of an accepted mesh.
 fn fill_points(
     kind: QuadratureKind,
-    x: &[f64],
-    y: &[f64],
-    z: &[f64],
-    t0: &[usize],
-    t1: &[usize],
-    t2: &[usize],
+    mesh: &TriangleMeshView,
     px: &mut [f64],
     py: &mut [f64],
     pz: &mut [f64],
     pw: &mut [f64],
 )
-    requires { PointsReady kind (lent_mesh x y z t0 t1 t2) px.old py.old pz.old pw.old }
-    ensures { PointsWritten kind (passed_mesh x y z t0 t1 t2) px.new py.new pz.new pw.new }
+    requires { PointsReady kind (viewed mesh.now) px.old py.old pz.old pw.old }
+    ensures { PointsWritten kind (viewed mesh.now) px.new py.new pz.new pw.new }
 {
     let count = tri::quadrature::quadrature_count(kind);
-    let mut i = 0;
-    while i < t0.len() {
-        let t = mesh::triangle_nodes(x, y, z, t0, t1, t2, i);
-        fill_panel(kind, t, i * count, px, py, pz, pw);
-        i += 1;
+    for i in 0..mesh.ntri() {
+        fill_panel(kind, mesh.triangle_nodes(i), i * count, px, py, pz, pw);
     }
 }
 
-// The number under a rule, 0 if the call is done.
-fn points_refusal(
+// The call under a rule.
+#[tactic(auto, using(mesh::proofs::Refusals::refused_by, mesh::proofs::Refusals::done_passed), unfolding(crate::specs::QuadraturePoints::points_refusal, refusal::specs::Checks::first))]
+fn check_points(
     kind: QuadratureKind,
-    x: &[f64],
-    y: &[f64],
-    z: &[f64],
-    t0: &[usize],
-    t1: &[usize],
-    t2: &[usize],
+    mesh: &TriangleMeshView,
     lx: usize,
     ly: usize,
     lz: usize,
     lw: usize,
-) -> u32
-    ensures { result ≡ Spec.points_refusal kind (passed_mesh x y z t0 t1 t2) lx ly lz lw }
+) -> Result<(), Refusal>
+    ensures { number_of result ≡ Spec.points_refusal kind (viewed mesh.now) lx ly lz lw }
 {
-    let refusal = mesh::mesh_refusal(x, y, z, t0, t1, t2);
-    if refusal != 0 {
-        return refusal;
-    }
-    let due = t0.len() * tri::quadrature::quadrature_count(kind);
+    mesh::check_mesh(mesh)?;
+    let due = mesh.ntri() * tri::quadrature::quadrature_count(kind);
     if lists::columns_differ(due, lx, ly, lz) | (lw != due) {
-        return refusal::OUTPUT_LENGTH;
+        return Err(Refusal::Output);
     }
-    0
+    Ok(())
 }
 
 // The quadrature points of a mesh under a rule.
 fn points_under(
     kind: QuadratureKind,
-    x: &[f64],
-    y: &[f64],
-    z: &[f64],
-    t0: &[usize],
-    t1: &[usize],
-    t2: &[usize],
+    mesh: &TriangleMeshView,
     px: &mut [f64],
     py: &mut [f64],
     pz: &mut [f64],
     pw: &mut [f64],
-) -> u32
-    ensures { PointsUnder kind (passed_mesh x y z t0 t1 t2) px.old py.old pz.old pw.old result px.new py.new pz.new pw.new }
+) -> Result<(), Refusal>
+    ensures { PointsUnder kind (viewed mesh.now) px.old py.old pz.old pw.old (number_of result) px.new py.new pz.new pw.new }
 {
-    let refusal = points_refusal(
-        kind,
-        x,
-        y,
-        z,
-        t0,
-        t1,
-        t2,
-        px.len(),
-        py.len(),
-        pz.len(),
-        pw.len(),
-    );
-    if refusal != 0 {
-        return refusal;
-    }
-    fill_points(kind, x, y, z, t0, t1, t2, px, py, pz, pw);
-    0
+    check_points(kind, mesh, px.len(), py.len(), pz.len(), pw.len())?;
+    fill_points(kind, mesh, px, py, pz, pw);
+    Ok(())
 }
 
 // The quadrature points of a mesh and their area weights, under the rule of a number from 1 to 5.
 pub fn triangle_mesh_quadrature_points(
     rule: u32,
-    x: &[f64],
-    y: &[f64],
-    z: &[f64],
-    t0: &[usize],
-    t1: &[usize],
-    t2: &[usize],
+    mesh: &TriangleMeshView,
     px: &mut [f64],
     py: &mut [f64],
     pz: &mut [f64],
     pw: &mut [f64],
-) -> u32
-    ensures { PointsBy rule (passed_mesh x y z t0 t1 t2) px.old py.old pz.old pw.old result px.new py.new pz.new pw.new }
+) -> Result<(), Refusal>
+    ensures { PointsBy rule (viewed mesh.now) px.old py.old pz.old pw.old (number_of result) px.new py.new pz.new pw.new }
 {
-    let known = tri::quadrature::quadrature_rule(rule);
-    match known {
-        Rule::Known(kind) => points_under(kind, x, y, z, t0, t1, t2, px, py, pz, pw),
-        Rule::Unknown => refusal::NO_SUCH_CHOICE,
-    }
+    let Some(kind) = tri::quadrature::quadrature_rule(rule) else {
+        return Err(Refusal::NoSuchChoice);
+    };
+    points_under(kind, mesh, px, py, pz, pw)
 }

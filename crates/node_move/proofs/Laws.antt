@@ -3,9 +3,9 @@
 use mathlib.Core.Path.{◌≡◌, refl, sym, ap, ◌∙◌}
 use mathlib.Core.Bool.{Bool, false, ◌||◌}
 use mathlib.Core.List.{List}
-use Prim.Native.Nat.{ℕ, ◌*◌, ◌-◌, ◌≤◌}
+use Prim.Native.Nat.{ℕ, ◌*◌, ◌-◌}
 use native.Mathlib.Nat.{lt_of_lt_of_le}
-use lib.ListN.{length, length-set, replicate}
+use lib.ListN.{length-set, replicate}
 use lib.Ieee.{Float}
 use borrow.Author.Tests.{eqb-false}
 use Rattle.lists.specs.Counting.{count_below}
@@ -15,7 +15,6 @@ use Rattle.scatter.specs.Renewal.{marked, renewed}
 use Rattle.scatter.specs.Mirror.{mirrored}
 use Rattle.scatter.specs.Flags.{IndicesBelow}
 use Rattle.pair_loops.specs.Additions.{Block, entries}
-use Rattle.pair_loops.specs.Ready.{Ready}
 use Rattle.inductance.specs.Matrix.{summed_cell, cell, matrix}
 use Rattle.scatter.specs.Change.{Changed}
 use Rattle.inductance.proofs.Change.{renewed_by}
@@ -49,17 +48,6 @@ pub ring_ready : (m : Mesh) (old : List Float) (v : ℕ) → MoveReady m old v �
 ring_ready m old v w i l =
     let b = w.none_missing i l in
     (lt_of_lt_of_le b.below0 w.small, (lt_of_lt_of_le b.below1 w.small, (lt_of_lt_of_le b.below2 w.small, tt)))
-
-pub moved_ready : (m : Mesh) (old : List Float) (v : ℕ) (x y z : Float) (marks : List Bool) → MoveReady m old v → nnode m ≤ length marks → Ready (moved m v x y z) old marks
-moved_ready m old v x y z marks w e =
-    let l = length-set m.xs v x in
-    record {
-      nodes_alike = record { ys_long = length-set m.ys v y ∙ w.nodes_alike.ys_long ∙ sym l; zs_long = length-set m.zs v z ∙ w.nodes_alike.zs_long ∙ sym l };
-      panels_alike = record { t1_long = w.panels_alike.t1_long; t2_long = w.panels_alike.t2_long };
-      few_panels = w.few_panels;
-      none_missing = λ i h. let b = w.none_missing i h in record { below0 = rw l b.below0; below1 = rw l b.below1; below2 = rw l b.below2 };
-      sized = record { small = rw l w.small; cells = rw l w.cells; enough = rw l e };
-    }
 
 -- ---- from the marks to the ring
 pub move_done : (cell_of : Mesh → ℕ → ℕ → Float) (m : Mesh) (v : ℕ) (x y z : Float) (old new : List Float) (marks : List Bool) (n r c k : ℕ)

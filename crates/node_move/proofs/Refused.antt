@@ -8,8 +8,8 @@ use lib.ListN.{length}
 use lib.Ieee.{Float}
 use Rattle.tri.specs.Quadrature.{quadrature_rule, NoSuchRule}
 use Rattle.tri.specs.declared.quadrature.QuadratureKind.{QuadratureKind}
-use Rattle.tri.specs.declared.quadrature.Rule.{Rule}
-use Rattle.tri.specs.declared.quadrature.Rule.TheVariants.{Known, Unknown}
+use Rattle.tri.specs.Quadrature.{Rule}
+use Rattle.std.specs.Prelude.{Some, None}
 use Rattle.tri.proofs.Rules.{rule_on}
 use Rattle.refusal.specs.Numbers.{no_such_choice}
 use Rattle.refusal.specs.Checks.{first}
@@ -27,10 +27,10 @@ use Rattle.node_move.specs.Move.{moved, ring, place_checks, place_refusal, move_
 use Rattle.node_move.proofs.Numbers.{place-done}
 
 -- a move that is done is ready
-pub ready : (m : Mesh) (old : List Float) (v : ℕ) (x y z : Float) (r : ℕ) → r ≡ place_refusal m (length old) v x y z → r ≡ 0 → MoveReady m old v
+pub ready : (m : Mesh) (old : List Float) (v : ℕ) (x y z : Float) → 0 ≡ place_refusal m (length old) v x y z → MoveReady m old v
 unfolding place_refusal
-ready m old v x y z r e h =
-    let w = mesh-accepted max_nodes max_panels m (place_checks m (length old) v x y z) tt (sym e ∙ h) in
+ready m old v x y z e =
+    let w = mesh-accepted max_nodes max_panels m (place_checks m (length old) v x y z) tt (sym e) in
     let a = w.0 in
     record {
       nodes_alike = a.nodes_alike;
@@ -89,16 +89,16 @@ abbrev Claim : ℕ → Rule → Mesh → List Float → ℕ → Float → Float 
 Claim number rule m old v x y z r count m' new =
     MoveClaim (NoSuchRule number → ⊥) (cell (block_under rule)) (matrix (block_under rule)) (move_refusal rule m (length old) v x y z) m old v x y z r count m' new
 
-known : (kind : QuadratureKind) (m : Mesh) (size v : ℕ) (x y z : Float) → move_refusal (Known kind) m size v x y z ≡ place_refusal m size v x y z
+known : (kind : QuadratureKind) (m : Mesh) (size v : ℕ) (x y z : Float) → move_refusal (Some kind) m size v x y z ≡ place_refusal m size v x y z
 unfolding move_refusal place_refusal first
 known kind m size v x y z = refl
 
-unknown : (m : Mesh) (size v : ℕ) (x y z : Float) → no_such_choice ≡ move_refusal Unknown m size v x y z
+unknown : (m : Mesh) (size v : ℕ) (x y z : Float) → no_such_choice ≡ move_refusal None m size v x y z
 unfolding move_refusal first
 unknown m size v x y z = refl
 
 pub claim_known : (number : ℕ) (kind : QuadratureKind) (m : Mesh) (old : List Float) (v : ℕ) (x y z : Float) (r count : ℕ) (m' : Mesh) (new : List Float)
-    → quadrature_rule number ≡ Known kind → MovedUnder kind m old v x y z r count m' new → MovedBy number m old v x y z r count m' new
+    → quadrature_rule number ≡ Some kind → MovedUnder kind m old v x y z r count m' new → MovedBy number m old v x y z r count m' new
 claim_known number kind m old v x y z r count m' new e w =
     let under : Premise (NoSuchRule number → ⊥) m v x y z → Premise Unit m v x y z =
     λ p. record { choice = tt; mesh = p.mesh; moved-mesh = p.moved-mesh; there = p.there } in
@@ -113,8 +113,8 @@ claim_known number kind m old v x y z r count m' new e w =
       renews = λ p. w.renews (under p);
     })
 
-pub claim_unknown : (number : ℕ) (m : Mesh) (old : List Float) (v : ℕ) (x y z : Float) → quadrature_rule number ≡ Unknown → MovedBy number m old v x y z no_such_choice 0 m old
+pub claim_unknown : (number : ℕ) (m : Mesh) (old : List Float) (v : ℕ) (x y z : Float) → quadrature_rule number ≡ None → MovedBy number m old v x y z no_such_choice 0 m old
 claim_unknown number m old v x y z e =
     let none : NoSuchRule number = (rule_on number).0 (rw e) in
     subst (λ (rule : Rule). Claim number rule m old v x y z no_such_choice 0 m old) (sym e)
-    (claim_refused (NoSuchRule number → ⊥) (cell (block_under Unknown)) (matrix (block_under Unknown)) _ m old v x y z (λ p _. absurd (p.choice none)) (matrix-long (block_under Unknown) m) no_such_choice (λ q. suc-ne-zero 11 q) (unknown m (length old) v x y z))
+    (claim_refused (NoSuchRule number → ⊥) (cell (block_under None)) (matrix (block_under None)) _ m old v x y z (λ p _. absurd (p.choice none)) (matrix-long (block_under None) m) no_such_choice (λ q. suc-ne-zero 11 q) (unknown m (length old) v x y z))

@@ -2,10 +2,11 @@
 use Rattle.std.specs.Prelude.{◌≡◌, ◌↔◌, ◌⊎◌, List, ◌∷◌, ◌++◌, ℕ, ◌*◌, ◌<◌, ◌≤◌, length, Float}
 use Rattle.tri.specs.Quadrature.{quadrature_rule, NoSuchRule, is_unknown}
 use Rattle.tri.specs.declared.quadrature.QuadratureKind.{QuadratureKind}
-use Rattle.tri.specs.declared.quadrature.Rule.{Rule}
+use Rattle.tri.specs.Quadrature.{Rule}
 use Rattle.refusal.specs.Numbers.{no_such_choice, output_length, no_such_node, zero_area}
 use Rattle.refusal.specs.Checks.{check, first}
-use Rattle.mesh.specs.Mesh.{Mesh, nnode, ntri, mesh_checks, max_nodes, max_panels}
+use Rattle.mesh.specs.declared.columns.PanelColumns.{PanelColumns}
+use Rattle.mesh.specs.Mesh.{Mesh, mesh_of, nnode, ntri, mesh_checks, max_nodes, max_panels}
 use Rattle.mesh.specs.Conditions.{NodeColumnsAlike, PanelColumnsAlike, NoneMissing, ZeroArea, Refused4, Accepted, MeshNumbered}
 use Rattle.coupling.specs.Block.{mutual_inductance_block}
 use Rattle.scatter.specs.Entries.{same}
@@ -17,6 +18,10 @@ pub use Rattle.node_ring.specs.Place.{moved, place_checks}
 unfoldable pub use Rattle.node_ring.specs.Place.{place_refusal}
 pub use Rattle.node_ring.specs.Ring.{joins, ring, named_count}
 unfoldable pub use Rattle.node_ring.specs.Ring.{count_rows}
+
+-- the mesh of lent coordinates, which a call may write, and panels
+abbrev pub on_panels : List Float → List Float → List Float → PanelColumns → Mesh
+on_panels x y z p = mesh_of x y z p.t0.now p.t1.now p.t2.now
 
 -- 12, 1, 2, 11, 3, 4, 6, 13, 4 on the moved mesh
 unfoldable pub move_refusal : Rule → Mesh → ℕ → ℕ → Float → Float → Float → ℕ

@@ -2,12 +2,38 @@
 // out anew, so that a fresh matrix is left fresh. Every test is made before anything is written.
 #![tactic(auto)]
 
-ghost use Rattle.mesh.specs.Mesh.{left_mesh, mesh_of};
+ghost use Rattle.std.specs.Prelude.{◌≡◌, ◌<◌, length};
+ghost use Rattle.binary64.specs.Binary64.{at};
+ghost use Rattle.mesh.specs.Mesh.{max_nodes};
+ghost use Rattle.mesh.specs.Columns.{viewed_panels};
+ghost use Rattle.mesh.specs.Conditions.{PanelColumnsAlike};
+ghost use Rattle.scatter.specs.Entries.{same};
+ghost use Rattle.scatter.specs.Flags.{IndicesBelow};
+ghost use Rattle.node_ring.specs.Ring.{MarksRing};
+ghost use Rattle.refusal.specs.Outcome.{number_of, value_or};
 ghost use Rattle.coupling.specs.Block.{mutual_inductance_block};
 ghost use Rattle.inductance.specs.Matrix.{cell};
-ghost use Rattle.node_move.specs.Move.{Done, MovedBy, MovedUnder, MoveReady};
+ghost use Rattle.node_move.specs.Move.{on_panels, Done, MovedBy, MovedUnder, MoveReady};
 
-use tri::quadrature::{QuadratureKind, Rule};
+use mesh::columns::{NodeColumns, PanelColumns, TriangleMeshView};
+use refusal::Refusal;
+use tri::quadrature::QuadratureKind;
+
+// The coordinates that are written are lent as three slices: a struct of three `&mut` would be no plainer, since
+// each function would have to promise that it leaves the same references there.
+
+// The ring of node v is marked. A function of its own: the room of its marks is free when the cells are worked out.
+fn mark_ring(marks: &mut [bool], panels: &PanelColumns, v: usize)
+    requires panel_columns_alike { PanelColumnsAlike (viewed_panels panels.now) }
+    requires indices_below { IndicesBelow max_nodes (viewed_panels panels.now) }
+    requires marks_long { length marks.old ≡ max_nodes }
+    requires there { v < max_nodes }
+    ensures { MarksRing (viewed_panels panels.now) (same v) marks.old marks.new }
+{
+    let mut changed = [false; mesh::MAX_NODES];
+    node_ring::mark_node(&mut changed, v);
+    node_ring::mark_rings(marks, &changed, panels);
+}
 
 // The ring is marked and counted, the place is written, the named cells are renewed.
 fn move_accepted(
@@ -15,91 +41,69 @@ fn move_accepted(
     x: &mut [f64],
     y: &mut [f64],
     z: &mut [f64],
-    t0: &[usize],
-    t1: &[usize],
-    t2: &[usize],
+    panels: &PanelColumns,
     out: &mut [f64],
     v: usize,
-    px: f64,
-    py: f64,
-    pz: f64,
+    place: [f64; 3],
 ) -> usize
-    requires { MoveReady (mesh_of x.old y.old z.old t0.now t1.now t2.now) out.old v }
-    ensures { Done (cell (mutual_inductance_block kind)) (mesh_of x.old y.old z.old t0.now t1.now t2.now) out.old v px py pz
-        result (left_mesh x y z t0 t1 t2) out.new }
+    requires { MoveReady (on_panels x.old y.old z.old panels.now) out.old v }
+    ensures { Done (cell (mutual_inductance_block kind)) (on_panels x.old y.old z.old panels.now) out.old v (at place 0) (at place 1) (at place 2)
+        result (on_panels x.new y.new z.new panels.now) out.new }
 {
     let n = x.len();
     let mut marks = [false; mesh::MAX_NODES];
-    node_ring::mark_ring(&mut marks, t0, t1, t2, v);
+    mark_ring(&mut marks, panels, v);
     let r = node_ring::count_marks(&marks, n);
-    x[v] = px;
-    y[v] = py;
-    z[v] = pz;
-    inductance::renew(kind, x, y, z, t0, t1, t2, &marks, out);
+    x[v] = place[0];
+    y[v] = place[1];
+    z[v] = place[2];
+    let mesh = TriangleMeshView {
+        nodes: NodeColumns { x, y, z },
+        panels: *panels,
+    };
+    inductance::renew(kind, &mesh, &marks, out);
     node_ring::named_cells(n, r)
 }
 
-// The answer of a move: the number, and the count of the renewed cells, 0 on a refusal.
-#[derive(Clone, Copy)]
-pub struct Moved {
-    pub refusal: u32,
-    pub count: usize,
-}
-
-// The move under a rule that there is.
+// The move under a rule that there is; its answer is the count of the renewed cells.
 fn move_under(
     kind: QuadratureKind,
     x: &mut [f64],
     y: &mut [f64],
     z: &mut [f64],
-    t0: &[usize],
-    t1: &[usize],
-    t2: &[usize],
+    panels: &PanelColumns,
     out: &mut [f64],
     v: usize,
-    px: f64,
-    py: f64,
-    pz: f64,
-) -> Moved
-    ensures { MovedUnder kind (mesh_of x.old y.old z.old t0.now t1.now t2.now) out.old v px py pz
-        result.refusal result.count (left_mesh x y z t0 t1 t2) out.new }
+    place: [f64; 3],
+) -> Result<usize, Refusal>
+    ensures { MovedUnder kind (on_panels x.old y.old z.old panels.now) out.old v (at place 0) (at place 1) (at place 2)
+        (number_of result) (value_or 0 result) (on_panels x.new y.new z.new panels.now) out.new }
 {
-    let refusal = node_ring::place_refusal(x, y, z, t0, t1, t2, out.len(), v, px, py, pz);
-    if refusal != 0 {
-        return Moved {
-            refusal: refusal,
-            count: 0,
-        };
-    }
-    let count = move_accepted(kind, x, y, z, t0, t1, t2, out, v, px, py, pz);
-    Moved {
-        refusal: 0,
-        count: count,
-    }
+    let mesh = TriangleMeshView {
+        nodes: NodeColumns { x, y, z },
+        panels: *panels,
+    };
+    node_ring::check_place(&mesh, out.len(), v, place)?;
+    let count = move_accepted(kind, x, y, z, panels, out, v, place);
+    Ok(count)
 }
 
-// The move of node v to (px, py, pz), on any mesh, out, node, place and rule number.
+// The move of node v to a place, on any mesh, out, node, place and rule number.
 pub fn move_node(
     rule: u32,
     x: &mut [f64],
     y: &mut [f64],
     z: &mut [f64],
-    t0: &[usize],
-    t1: &[usize],
-    t2: &[usize],
+    panels: &PanelColumns,
     out: &mut [f64],
     v: usize,
-    px: f64,
-    py: f64,
-    pz: f64,
-) -> Moved
-    ensures { MovedBy rule (mesh_of x.old y.old z.old t0.now t1.now t2.now) out.old v px py pz result.refusal result.count (left_mesh x y z t0 t1 t2) out.new }
+    place: [f64; 3],
+) -> Result<usize, Refusal>
+    ensures { MovedBy rule (on_panels x.old y.old z.old panels.now) out.old v (at place 0) (at place 1) (at place 2)
+        (number_of result) (value_or 0 result) (on_panels x.new y.new z.new panels.now) out.new }
 {
-    match tri::quadrature::quadrature_rule(rule) {
-        Rule::Known(kind) => move_under(kind, x, y, z, t0, t1, t2, out, v, px, py, pz),
-        Rule::Unknown => Moved {
-            refusal: refusal::NO_SUCH_CHOICE,
-            count: 0,
-        },
-    }
+    let Some(kind) = tri::quadrature::quadrature_rule(rule) else {
+        return Err(Refusal::NoSuchChoice);
+    };
+    move_under(kind, x, y, z, panels, out, v, place)
 }

@@ -14,7 +14,7 @@ use Rattle.scatter.specs.Renewal.{marked, AllBelow}
 use Rattle.scatter.specs.Entries.{same}
 use Rattle.node_ring.specs.Ring.{joins}
 
-one-mark : (m : List Bool) (i a : ℕ) → i < length m → marked (set m i true) a ≡ (marked m a || eqb i a)
+pub one-mark : (m : List Bool) (i a : ℕ) → i < length m → marked (set m i true) a ≡ (marked m a || eqb i a)
 one-mark m i a h = go (eqb i a) refl
   where
     go : (t : Bool) → eqb i a ≡ t → marked (set m i true) a ≡ (marked m a || t)
@@ -58,11 +58,6 @@ ring_turn m changed a p s t u old e h w =
 pub ring_start : (m : Mesh) (changed : ℕ → Bool) (a : ℕ) (old : Bool) → old ≡ (old || some_below (joins m changed a) 0)
 unfolding some_below
 ring_start m changed a old = sym (or-false old)
-
-pub panel_below : (n k : ℕ) (m : Mesh) (p : ℕ) (s : List ℕ) → n ≡ k → AllBelow k (triangle_indices m p) → s ≡ triangle_indices m p → AllBelow n (triple s)
-panel_below n k m p s l b e =
-    let h = subst (λ (x : ℕ). AllBelow x (triangle_indices m p)) (sym l) b in
-    subst (λ (t : List ℕ). AllBelow n (triple t)) (sym e) h
 
 pub none-marked : (k a : ℕ) → marked (replicate k false) a ≡ false
 none-marked zero a = refl

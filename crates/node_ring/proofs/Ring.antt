@@ -1,9 +1,12 @@
 -- What follows from marks that are the ring of changed nodes, for a move and a return alike: cells and count are those that the ring names, and a node outside it is apart from the changed ones.
-use mathlib.Core.Path.{◌≡◌, sym, ap, ◌∙◌}
-use mathlib.Core.Bool.{Bool, false, ◌||◌}
+use mathlib.Core.Path.{◌≡◌, refl, sym, ap, ◌∙◌}
+use mathlib.Core.Bool.{Bool, true, false, ◌||◌}
 use mathlib.Core.List.{List}
 use Prim.Native.Nat.{ℕ, ◌*◌, ◌-◌, ◌<◌}
-use lib.ListN.{replicate}
+use borrow.Author.Tests.{eqb-true, eqb-false, eq-eqb, ne_eqb}
+use lib.Dec.{eqb}
+use lib.ListN.{replicate, length-replicate, set}
+use Rattle.scatter.specs.Entries.{same}
 use lib.Ieee.{Float}
 use Rattle.lists.specs.Counting.{any_of, count_below}
 use Rattle.lists.proofs.Counting.{none_at, some_alike, count_alike}
@@ -13,7 +16,7 @@ use Rattle.scatter.specs.Flags.{IndicesBelow}
 use Rattle.scatter.specs.Change.{Apart}
 use Rattle.scatter.proofs.Renewals.{renewed-same}
 use Rattle.node_ring.specs.Ring.{joins, ring, named_count}
-use Rattle.node_ring.proofs.Marks.{none-marked}
+use Rattle.node_ring.proofs.Marks.{one-mark, none-marked}
 use Rattle.node_ring.proofs.Count.{named_count_lem}
 
 pub outside : (m : Mesh) (changed : ℕ → Bool) (a : ℕ) → ring m changed a ≡ false → Apart m changed a
@@ -35,3 +38,11 @@ module _ (r : ℕ → Bool) (marks : List Bool) (k : ℕ) (e : (a : ℕ) → mar
   pub ring-total : (n t c : ℕ) → t ≡ count_below (marked marks) n → c ≡ 2 * n * t - t * t → c ≡ named_count r n
   ring-total n t c s w =
       w ∙ ap (λ (j : ℕ). 2 * n * j - j * j) (s ∙ count_alike (marked marks) r n (λ a l. marks-ring a)) ∙ sym (named_count_lem r n)
+
+-- of k nodes one is changed
+pub one_changed : (k v a : ℕ) → v < k → marked (set (replicate k false) v true) a ≡ same v a
+one_changed k v a l = one-mark (replicate k false) v a (rw length-replicate l) ∙ ap (λ (t : Bool). t || eqb v a) (none-marked k a) ∙ turned (eqb a v) refl
+  where
+    turned : (t : Bool) → eqb a v ≡ t → eqb v a ≡ t
+    turned true e = eq-eqb v a (sym (eqb-true a v e))
+    turned false e = ne_eqb v a (λ z. eqb-false a v e (sym z))

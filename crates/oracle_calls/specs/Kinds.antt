@@ -5,7 +5,7 @@ use Rattle.replay_cases.specs.Case.{words_of, numbers_of}
 
 -- a kind that is none of these agrees with nothing
 unfoldable pub calls_agree_all : ℕ → List Float → List ℕ → Bool
-calls_agree_all kind f w = numbers_agree kind f w || (vectors_agree kind f w || (panels_agree kind f w || (pairs_agree kind f w || calls_agree kind f w)))
+calls_agree_all kind f w = numbers_agree kind f w || vectors_agree kind f w || panels_agree kind f w || pairs_agree kind f w || calls_agree kind f w
 
 unfoldable pub agrees : ℕ → List ℕ → Bool
 agrees kind b =

@@ -14,5 +14,10 @@ agrees kind b =
     let w = words_of b in
     let f = numbers_of w in
     let u = places_of w in
-    let bytes = files_agree kind b w || (writer_agrees kind b f u w || shapes_agree kind b f u w) in
-    meshes_agree kind f u w || (maps_agree kind f w || (rows_agree kind f w || (shown_agree kind f w || bytes)))
+    meshes_agree kind f u w
+    || maps_agree kind f w
+    || rows_agree kind f w
+    || shown_agree kind f w
+    || files_agree kind b w
+    || writer_agrees kind b f u w
+    || shapes_agree kind b f u w

@@ -10,7 +10,7 @@ use lib.Seq.{get_or-set_same, get_or-set_other}
 use lib.Ieee.{Float, nan}
 use Rattle.binary64.specs.Binary64.{◌⊕◌, ◌⊘◌, at, plus_zero}
 use Rattle.lists.specs.Sums.{running_sum, sum_to}
-use Rattle.panel_points.specs.declared.Points.{Points}
+use Rattle.panel_points.specs.declared.WeightedPoints.{WeightedPoints}
 use Rattle.pair_far_rule.specs.Far.{shared, between, held_to}
 
 -- ---- a row's shares
@@ -40,18 +40,18 @@ shared_same held v d e zero all = refl
 shared_same held v d e (suc k) all = rw (shared_same held v d e k (λ j l. all j (omega arith)), all k (omega arith))
 
 -- ---- all rows' shares
-held-length : (n : ℕ) (s t : Points) (k : ℕ) → length (held_to n s t k) ≡ 7
+held-length : (n : ℕ) (s t : WeightedPoints) (k : ℕ) → length (held_to n s t k) ≡ 7
 unfolding held_to
 held-length n s t zero = refl
-held-length n s t (suc k) = shared-length (held_to n s t k) (at t.w k) (between s t k) n ∙ held-length n s t k
+held-length n s t (suc k) = shared-length (held_to n s t k) (at t.weight k) (between s t k) n ∙ held-length n s t k
 
-zero_at : (n : ℕ) (s t : Points) (j : ℕ) → j < 7 → at (held_to n s t zero) j ≡ plus_zero
+zero_at : (n : ℕ) (s t : WeightedPoints) (j : ℕ) → j < 7 → at (held_to n s t zero) j ≡ plus_zero
 unfolding held_to
 zero_at n s t j h = get_or-replicate 7 j plus_zero nan h
 
-pub held_at : (n : ℕ) (s t : Points) (k j : ℕ) → j < n → n ≤ 7 → at (held_to n s t k) j ≡ sum_to (λ (i : ℕ). at t.w i ⊘ between s t i j) k
+pub held_at : (n : ℕ) (s t : WeightedPoints) (k j : ℕ) → j < n → n ≤ 7 → at (held_to n s t k) j ≡ sum_to (λ (i : ℕ). at t.weight i ⊘ between s t i j) k
 unfolding running_sum held_to
 held_at n s t zero j h m = zero_at n s t j (omega arith)
 held_at n s t (suc k) j h m =
     let long = held-length n s t k in
-    shared_at (held_to n s t k) (at t.w k) (between s t k) n j h (omega arith) ∙ ap (λ (x : Float). x ⊕ at t.w k ⊘ between s t k j) (held_at n s t k j h m)
+    shared_at (held_to n s t k) (at t.weight k) (between s t k) n j h (omega arith) ∙ ap (λ (x : Float). x ⊕ at t.weight k ⊘ between s t k j) (held_at n s t k j h m)

@@ -4,12 +4,14 @@ use Rattle.std.specs.Prelude.{ℕ, zero, suc, ◌+◌, ◌*◌, List, [], ◌∷
 use Rattle.binary64.specs.Binary64.{◌⊕◌, ◌⊗◌, ◌⊘◌, at, plus_zero, half}
 use Rattle.math.specs.Math.{Vec, norm3, sub3}
 use Rattle.lists.specs.Sums.{sum_to}
+use Rattle.panel_points.specs.Points.{point}
 use Rattle.panel_points.specs.declared.Points.{Points}
+use Rattle.panel_points.specs.declared.WeightedPoints.{WeightedPoints}
 
 -- ---- the sums
--- the distances of p from the points x, y, z
-unfoldable pub distances : List Float → List Float → List Float → Vec → ℕ → Float
-distances x y z p j = norm3 (sub3 p (at x j ∷ at y j ∷ at z j ∷ []))
+-- the distances of p from points
+unfoldable pub distances : Points → Vec → ℕ → Float
+distances points p j = norm3 (sub3 p (point points j))
 
 -- the distances d from index start on
 abbrev pub from : List Float → ℕ → ℕ → Float
@@ -21,21 +23,21 @@ shared held v d zero = held
 shared held v d (suc k) = set (shared held v d k) k (at (shared held v d k) k ⊕ v ⊘ d k)
 
 -- the distances of point i of t from the points of s
-abbrev pub between : Points → Points → ℕ → ℕ → Float
-between s t i = distances s.x s.y s.z (at t.x i ∷ at t.y i ∷ at t.z i ∷ [])
+abbrev pub between : WeightedPoints → WeightedPoints → ℕ → ℕ → Float
+between s t i = distances s.points (point t.points i)
 
 -- the potentials at the points of s, of the first k points of t
-unfoldable pub held_to : ℕ → Points → Points → ℕ → List Float
+unfoldable pub held_to : ℕ → WeightedPoints → WeightedPoints → ℕ → List Float
 held_to n s t zero = plus_zero ∷ plus_zero ∷ plus_zero ∷ plus_zero ∷ plus_zero ∷ plus_zero ∷ plus_zero ∷ []
-held_to n s t (suc k) = shared (held_to n s t k) (at t.w k) (between s t k) n
+held_to n s t (suc k) = shared (held_to n s t k) (at t.weight k) (between s t k) n
 
 -- the potential of s at point i of t, times that point's weight
-unfoldable pub forward : ℕ → Points → Points → ℕ → Float
-forward n s t i = at t.w i ⊗ sum_to (λ j. at s.w j ⊘ between s t i j) n
+unfoldable pub forward : ℕ → WeightedPoints → WeightedPoints → ℕ → Float
+forward n s t i = at t.weight i ⊗ sum_to (λ j. at s.weight j ⊘ between s t i j) n
 
 -- half the sum of the two directions
-unfoldable pub far_shared : ℕ → Points → Points → Float
-far_shared n s t = half ⊗ (sum_to (forward n s t) n ⊕ sum_to (λ j. at s.w j ⊗ at (held_to n s t n) j) n)
+unfoldable pub far_shared : ℕ → WeightedPoints → WeightedPoints → Float
+far_shared n s t = half ⊗ (sum_to (forward n s t) n ⊕ sum_to (λ j. at s.weight j ⊗ at (held_to n s t n) j) n)
 
 -- ---- the same over a list d of all distances, that of point k of t from point j of s at k * n + j; w and v are the weights of s and t
 -- row k of d

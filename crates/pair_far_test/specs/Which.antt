@@ -2,23 +2,12 @@
 use Rattle.std.specs.Prelude.{Bool, false, cond, not, ◌&&◌, ◌||◌, Float}
 use Rattle.std.specs.Float.{inf}
 use Rattle.std.specs.Float.Ieee.{neg, lt, le}
-use Rattle.binary64.specs.Binary64.{◌⊕◌, ◌⊖◌, ◌⊗◌, at, bits, plus_zero}
-use Rattle.ieee754.specs.Ieee754.{min, max}
+use Rattle.binary64.specs.Binary64.{◌⊖◌, at, bits}
+use Rattle.ieee754.specs.Ieee754.{min}
 use Rattle.math.specs.Math.{Vec}
 use Rattle.tri.specs.Mapping.{Tri, corner}
 use Rattle.boundary_element.specs.Identity.{triangles_identical}
 use Rattle.panel_distance.specs.Distance.{point_triangle_distance_squared, segment_distance_squared}
-
--- how far two boxes are apart along one axis
-unfoldable pub gap_between : Float → Float → Float → Float → Float
-gap_between alo ahi blo bhi = max (max (alo ⊖ bhi) (blo ⊖ ahi)) plus_zero
-
-unfoldable pub box_distance_squared : Vec → Vec → Vec → Vec → Float
-box_distance_squared alo ahi blo bhi =
-    let x = gap_between (at alo 0) (at ahi 0) (at blo 0) (at bhi 0) in
-    let y = gap_between (at alo 1) (at ahi 1) (at blo 1) (at bhi 1) in
-    let z = gap_between (at alo 2) (at ahi 2) (at blo 2) (at bhi 2) in
-    plus_zero ⊕ x ⊗ x ⊕ y ⊗ y ⊕ z ⊗ z
 
 -- ---- points that are plainly apart, by hardware operations alone
 -- 2^-30, well above the tolerance of a match

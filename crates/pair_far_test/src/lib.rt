@@ -8,26 +8,11 @@ ghost use Rattle.pair_far_test.specs.Which as Spec;
 use boundary_element::identity::triangles_identical;
 use panel_distance::distance::{point_triangle_distance_squared, segment_distance_squared};
 
-// How far two boxes are apart along one axis, of their lowest and highest coordinates.
-fn gap(alo: f64, ahi: f64, blo: f64, bhi: f64) -> f64
-    ensures { result ≡ Spec.gap_between alo ahi blo bhi }
-{
-    ieee754::max(ieee754::max(alo - bhi, blo - ahi), 0.0)
-}
-
-pub fn box_distance_squared(alo: [f64; 3], ahi: [f64; 3], blo: [f64; 3], bhi: [f64; 3]) -> f64
-    ensures { result ≡ Spec.box_distance_squared alo ahi blo bhi }
-{
-    let x = gap(alo[0], ahi[0], blo[0], bhi[0]);
-    let y = gap(alo[1], ahi[1], blo[1], bhi[1]);
-    let z = gap(alo[2], ahi[2], blo[2], bhi[2]);
-    0.0 + x * x + y * y + z * z
-}
-
 // ---- whether two panels are one
 // 2^-30, well above the tolerance of a match.
 const WIDENESS: f64 = 9.31322574615478515625e-10;
 
+#[tactic(auto, unfolding(crate::specs::Which::is_wide))]
 fn is_wide(x: f64) -> bool
     ensures { result ≡ Spec.is_wide x }
 {
@@ -35,6 +20,7 @@ fn is_wide(x: f64) -> bool
 }
 
 // Whether a and b differ in some coordinate by so much that they cannot match.
+#[tactic(auto, unfolding(crate::specs::Which::is_clear))]
 fn is_clear(a: [f64; 3], b: [f64; 3]) -> bool
     ensures { result ≡ Spec.is_clear a b }
 {
@@ -56,6 +42,7 @@ fn is_one(s: [[f64; 3]; 3], t: [[f64; 3]; 3]) -> bool
 
 // ---- the panels' distance, as far as the limit asks for it
 // The least of a distance and those of the corners of s from t, or the first that is not above the limit.
+#[tactic(auto, unfolding(crate::specs::Which::corners_until, crate::specs::Which::until))]
 fn corners_until(limit: f64, d: f64, s: [[f64; 3]; 3], t: [[f64; 3]; 3]) -> f64
     ensures { result ≡ Spec.corners_until limit d s t }
 {
@@ -71,6 +58,7 @@ fn corners_until(limit: f64, d: f64, s: [[f64; 3]; 3], t: [[f64; 3]; 3]) -> f64
 }
 
 // The same of the segment from p to q and the edges of t.
+#[tactic(auto, unfolding(crate::specs::Which::edges_until, crate::specs::Which::until))]
 fn edges_until(limit: f64, d: f64, p: [f64; 3], q: [f64; 3], t: [[f64; 3]; 3]) -> f64
     ensures { result ≡ Spec.edges_until limit d p q t }
 {
@@ -86,6 +74,7 @@ fn edges_until(limit: f64, d: f64, p: [f64; 3], q: [f64; 3], t: [[f64; 3]; 3]) -
 }
 
 // Whether the least of a distance and those of all pairs of edges is above the limit.
+#[tactic(auto, unfolding(crate::specs::Which::edges_beyond))]
 fn edges_beyond(limit: f64, d: f64, s: [[f64; 3]; 3], t: [[f64; 3]; 3]) -> bool
     ensures { result ≡ Spec.edges_beyond limit d s t }
 {
@@ -100,6 +89,7 @@ fn edges_beyond(limit: f64, d: f64, s: [[f64; 3]; 3], t: [[f64; 3]; 3]) -> bool
 }
 
 // Whether the panels are further apart than the limit.
+#[tactic(auto, unfolding(crate::specs::Which::beyond))]
 fn is_beyond(limit: f64, s: [[f64; 3]; 3], t: [[f64; 3]; 3]) -> bool
     ensures { result ≡ Spec.beyond limit s t }
 {
@@ -115,6 +105,7 @@ fn is_beyond(limit: f64, s: [[f64; 3]; 3], t: [[f64; 3]; 3]) -> bool
 
 // ---- which rule
 // The far rule holds where the boxes or the panels are further apart than the limit, unless the panels are one.
+#[tactic(auto, unfolding(crate::specs::Which::far_beyond))]
 pub fn is_far(s: [[f64; 3]; 3], t: [[f64; 3]; 3], limit: f64, apart: f64) -> bool
     ensures { result ≡ Spec.far_beyond s t limit apart }
 {

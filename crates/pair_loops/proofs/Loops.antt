@@ -6,14 +6,13 @@ use Prim.Native.Nat.{ℕ, zero, suc, ◌+◌, ◌-◌, ◌<◌, ◌≤◌}
 use native.Mathlib.Numerals.{add-one}
 use native.Mathlib.Omega.{arith}
 use lib.Dec.{eqb}
-use lib.ListN.{length}
 use lib.Ieee.{Float}
 use Rattle.lists.specs.Counting.{any_of, triple, next_from}
 use Rattle.mesh.specs.Mesh.{Mesh, ntri, triangle_indices, triangle_nodes}
 use Rattle.refusal.proofs.Tests.{or_off}
 use Rattle.scatter.specs.Entries.{Entry, block_entries, with_transposed}
 use Rattle.scatter.specs.Renewal.{named, scatter, renewing, marked}
-use Rattle.scatter.proofs.Steps.{renewing-append, length-renewing}
+use Rattle.scatter.proofs.Steps.{renewing-append}
 use Rattle.scatter.proofs.Misses.{block_skipped}
 use Rattle.lists.proofs.First.{next_keeps}
 use Rattle.pair_loops.specs.Additions.{Block, pair_entries, target_entries, source_entries}
@@ -125,8 +124,3 @@ module _ (r : ℕ → Bool) (n : ℕ) (f : Block) (m : Mesh) where
     no_sources zero i b = refl
     no_sources (suc c) i b =
         nothing (target_entries f m i i (ntri m - i)) (no_targets (ntri m - i) i i (omega arith) (omega arith)) (source_entries f m (suc i) c) (no_sources c (suc i) (omega arith))
-
--- ---- the length
-pub added-length : (r : ℕ → Bool) (n : ℕ) (es : List Entry) (old out : List Float) {new : List Float}
-    → new ≡ renewing r n out es → length out ≡ length old → length new ≡ length old
-added-length r n es old out e l = ap (λ (x : List Float). length x) e ∙ length-renewing r n out es ∙ l

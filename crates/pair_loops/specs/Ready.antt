@@ -1,7 +1,8 @@
 -- Inner form: what the assembly's own functions ask of a mesh, a matrix, marks, flags and links. Definitions only.
-use Rattle.std.specs.Prelude.{Bool, List, ℕ, ◌≤◌, length, Float}
+use Rattle.std.specs.Prelude.{◌≡◌, Bool, List, ◌≤◌, length, Float}
 use Rattle.mesh.specs.Mesh.{Mesh, nnode, ntri, max_panels}
 use Rattle.mesh.specs.Conditions.{NodeColumnsAlike, PanelColumnsAlike, NoneMissing}
+use Rattle.scatter.specs.declared.LinkedSet.{LinkedSet}
 use Rattle.scatter.specs.Renewal.{Sized, marked}
 use Rattle.scatter.specs.Links.{LinksNext}
 use Rattle.scatter.specs.Flags.{Flagged}
@@ -14,9 +15,10 @@ pub record Ready (m : Mesh) (out : List Float) (marks : List Bool) : Type 0 wher
   pub none_missing : NoneMissing m
   pub sized : Sized (nnode m) out marks
 
--- what the loops over pairs ask besides: the flags, and from each panel the next that is flagged
-pub record Scanned (m : Mesh) (marks flags : List Bool) (links : List ℕ) : Type 0 where
-  pub flags_long : ntri m ≤ length flags
-  pub links_long : ntri m ≤ length links
-  pub flagged : Flagged (ntri m) m marks flags
-  pub linked : LinksNext 0 (marked flags) (ntri m) links
+-- what the loops over pairs ask besides: the flagged panels, and from each panel the next of them
+pub record Scanned (m : Mesh) (marks : List Bool) (flagged : LinkedSet) : Type 0 where
+  pub counted : flagged.set.count ≡ ntri m
+  pub flags_long : ntri m ≤ length flagged.set.marks.now
+  pub links_long : ntri m ≤ length flagged.links.now
+  pub flags_made : Flagged (ntri m) m marks flagged.set.marks.now
+  pub linked : LinksNext 0 (marked flagged.set.marks.now) (ntri m) flagged.links.now

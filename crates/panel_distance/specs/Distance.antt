@@ -7,6 +7,7 @@ use Rattle.ieee754.specs.Ieee754.{min, max, clamp}
 use Rattle.math.specs.Math.{Vec, sub3, dot3}
 use Rattle.tri.specs.Mapping.{Tri, corner}
 use Rattle.tri.specs.Tri3.{closest_point}
+use Rattle.panel_distance.specs.declared.distance.Bounds.{Bounds}
 
 -- the squared length of the vector from a to b
 unfoldable pub distance_squared : Vec → Vec → Float
@@ -88,6 +89,22 @@ gap a b axis = max (max (lowest a axis ⊖ highest b axis) (lowest b axis ⊖ hi
 unfoldable pub triangle_aabb_distance_squared : Tri → Tri → Float
 triangle_aabb_distance_squared a b = plus_zero ⊕ gap a b 0 ⊗ gap a b 0 ⊕ gap a b 1 ⊗ gap a b 1 ⊕ gap a b 2 ⊗ gap a b 2
 
+-- ---- the same of boxes that are kept
+unfoldable pub bounds : Tri → Bounds
+bounds t = record { lo = lowest t 0 ∷ lowest t 1 ∷ lowest t 2 ∷ []; hi = highest t 0 ∷ highest t 1 ∷ highest t 2 ∷ [] }
+
+-- how far two boxes are apart along one axis
+unfoldable pub gap_between : Bounds → Bounds → ℕ → Float
+gap_between a b axis = max (max (at a.lo axis ⊖ at b.hi axis) (at b.lo axis ⊖ at a.hi axis)) plus_zero
+
+unfoldable pub bounds_distance_squared : Bounds → Bounds → Float
+bounds_distance_squared a b =
+    let x = gap_between a b 0 in
+    let y = gap_between a b 1 in
+    let z = gap_between a b 2 in
+    plus_zero ⊕ x ⊗ x ⊕ y ⊗ y ⊕ z ⊗ z
+
+-- ---- the longest edge
 unfoldable pub triangle_max_edge_squared : Tri → Float
 triangle_max_edge_squared t =
     max (max (max plus_zero (distance_squared (corner t 0) (corner t 1))) (distance_squared (corner t 1) (corner t 2))) (distance_squared (corner t 2) (corner t 0))

@@ -5,6 +5,7 @@ ghost use Rattle.panel_distance.specs.Bisection as Spec;
 use crate::distance::distance_squared;
 
 // Of the lengths of three edges the first that is longest.
+#[tactic(auto, unfolding(crate::specs::Bisection::first_longest))]
 fn first_longest(l0: f64, l1: f64, l2: f64) -> usize
     ensures { (result ≡ Spec.first_longest l0 l1 l2) × (result < 3) }
 {
@@ -18,6 +19,7 @@ fn first_longest(l0: f64, l1: f64, l2: f64) -> usize
 }
 
 // The edge that is split; edge i goes from corner i to the next.
+#[tactic(auto, unfolding(crate::specs::Bisection::longest_edge))]
 pub fn longest_edge(t: [[f64; 3]; 3]) -> usize
     ensures { (result ≡ Spec.longest_edge t) × (result < 3) }
 {
@@ -27,6 +29,7 @@ pub fn longest_edge(t: [[f64; 3]; 3]) -> usize
     first_longest(l0, l1, l2)
 }
 
+#[tactic(auto, unfolding(crate::specs::Bisection::midpoint))]
 fn midpoint(a: [f64; 3], b: [f64; 3]) -> [f64; 3]
     ensures { result ≡ Spec.midpoint a b }
 {
@@ -38,6 +41,7 @@ fn midpoint(a: [f64; 3], b: [f64; 3]) -> [f64; 3]
 }
 
 // The halves at the edge from a to b; c is the corner across.
+#[tactic(auto, unfolding(crate::specs::Bisection::halves))]
 fn halves(a: [f64; 3], b: [f64; 3], c: [f64; 3]) -> [[[f64; 3]; 3]; 2]
     ensures { result ≡ Spec.halves a b c }
 {
@@ -45,6 +49,7 @@ fn halves(a: [f64; 3], b: [f64; 3], c: [f64; 3]) -> [[[f64; 3]; 3]; 2]
     [[a, m, c], [m, b, c]]
 }
 
+#[tactic(auto, unfolding(crate::specs::Bisection::longest_edge_bisection))]
 pub fn longest_edge_bisection(t: [[f64; 3]; 3]) -> [[[f64; 3]; 3]; 2]
     ensures { result ≡ Spec.longest_edge_bisection t }
 {

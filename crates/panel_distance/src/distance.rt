@@ -3,12 +3,14 @@ ghost use Rattle.std.specs.Prelude.{◌≡◌, ◌<◌};
 ghost use Rattle.panel_distance.specs.Distance as Spec;
 
 // The squared length of the vector from a to b.
+#[tactic(auto, unfolding(crate::specs::Distance::distance_squared))]
 pub fn distance_squared(a: [f64; 3], b: [f64; 3]) -> f64
     ensures { result ≡ Spec.distance_squared a b }
 {
     math::norm_squared3(math::sub3(b, a))
 }
 
+#[tactic(auto, unfolding(crate::specs::Distance::point_triangle_distance_squared))]
 pub fn point_triangle_distance_squared(point: [f64; 3], t: [[f64; 3]; 3]) -> f64
     ensures { result ≡ Spec.point_triangle_distance_squared point t }
 {
@@ -17,6 +19,7 @@ pub fn point_triangle_distance_squared(point: [f64; 3], t: [[f64; 3]; 3]) -> f64
 
 // ---- two segments
 // Where the lines come closest, along the first and kept on it.
+#[tactic(auto, unfolding(crate::specs::Distance::line_parameter))]
 fn line_parameter(a: f64, b: f64, c: f64, e: f64, f: f64) -> f64
     ensures { result ≡ Spec.line_parameter a b c e f }
 {
@@ -28,6 +31,7 @@ fn line_parameter(a: f64, b: f64, c: f64, e: f64, f: f64) -> f64
 }
 
 // The squared length of r + s * d1 - t * d2.
+#[tactic(auto, unfolding(crate::specs::Distance::offset_squared))]
 fn offset_squared(r: [f64; 3], d1: [f64; 3], d2: [f64; 3], s: f64, t: f64) -> f64
     ensures { result ≡ Spec.offset_squared r d1 d2 s t }
 {
@@ -39,6 +43,7 @@ fn offset_squared(r: [f64; 3], d1: [f64; 3], d2: [f64; 3], s: f64, t: f64) -> f6
 }
 
 // The same where t is kept on the second segment, with the s that goes with its end.
+#[tactic(auto, unfolding(crate::specs::Distance::kept_offset_squared))]
 fn kept_offset_squared(
     r: [f64; 3],
     d1: [f64; 3],
@@ -60,6 +65,7 @@ fn kept_offset_squared(
     offset_squared(r, d1, d2, s, t)
 }
 
+#[tactic(auto, unfolding(crate::specs::Distance::segment_distance_squared))]
 pub fn segment_distance_squared(p0: [f64; 3], p1: [f64; 3], q0: [f64; 3], q1: [f64; 3]) -> f64
     ensures { result ≡ Spec.segment_distance_squared p0 p1 q0 q1 }
 {
@@ -78,6 +84,7 @@ pub fn segment_distance_squared(p0: [f64; 3], p1: [f64; 3], q0: [f64; 3], q1: [f
 
 // ---- two triangles
 // The least of a distance and those of the corners of s from t.
+#[tactic(auto, unfolding(crate::specs::Distance::least_of_corners))]
 fn least_of_corners(distance: f64, s: [[f64; 3]; 3], t: [[f64; 3]; 3]) -> f64
     ensures { result ≡ Spec.least_of_corners distance s t }
 {
@@ -87,6 +94,7 @@ fn least_of_corners(distance: f64, s: [[f64; 3]; 3], t: [[f64; 3]; 3]) -> f64
 }
 
 // The least of a distance and those of the segment from p0 to p1 from the edges of t.
+#[tactic(auto, unfolding(crate::specs::Distance::least_of_edges))]
 fn least_of_edges(distance: f64, p0: [f64; 3], p1: [f64; 3], t: [[f64; 3]; 3]) -> f64
     ensures { result ≡ Spec.least_of_edges distance p0 p1 t }
 {
@@ -95,6 +103,7 @@ fn least_of_edges(distance: f64, p0: [f64; 3], p1: [f64; 3], t: [[f64; 3]; 3]) -
     ieee754::min(d1, segment_distance_squared(p0, p1, t[2], t[0]))
 }
 
+#[tactic(auto, unfolding(crate::specs::Distance::triangle_distance_squared))]
 pub fn triangle_distance_squared(a: [[f64; 3]; 3], b: [[f64; 3]; 3]) -> f64
     ensures { result ≡ Spec.triangle_distance_squared a b }
 {
@@ -106,6 +115,7 @@ pub fn triangle_distance_squared(a: [[f64; 3]; 3], b: [[f64; 3]; 3]) -> f64
 }
 
 // ---- the boxes of two triangles
+#[tactic(auto, unfolding(crate::specs::Distance::lowest))]
 pub fn lowest(t: [[f64; 3]; 3], axis: usize) -> f64
     requires { axis < 3 }
     ensures { result ≡ Spec.lowest t axis }
@@ -113,6 +123,7 @@ pub fn lowest(t: [[f64; 3]; 3], axis: usize) -> f64
     ieee754::min(ieee754::min(t[0][axis], t[1][axis]), t[2][axis])
 }
 
+#[tactic(auto, unfolding(crate::specs::Distance::highest))]
 pub fn highest(t: [[f64; 3]; 3], axis: usize) -> f64
     requires { axis < 3 }
     ensures { result ≡ Spec.highest t axis }
@@ -120,25 +131,53 @@ pub fn highest(t: [[f64; 3]; 3], axis: usize) -> f64
     ieee754::max(ieee754::max(t[0][axis], t[1][axis]), t[2][axis])
 }
 
-// How far the boxes are apart along one axis.
-fn gap(a: [[f64; 3]; 3], b: [[f64; 3]; 3], axis: usize) -> f64
-    requires { axis < 3 }
-    ensures { result ≡ Spec.gap a b axis }
-{
-    let above = lowest(a, axis) - highest(b, axis);
-    let below = lowest(b, axis) - highest(a, axis);
-    ieee754::max(ieee754::max(above, below), 0.0)
+// A triangle's box: its lowest and highest coordinate along each axis.
+#[derive(Clone, Copy)]
+pub struct Bounds {
+    pub lo: [f64; 3],
+    pub hi: [f64; 3],
+}
+
+impl Bounds {
+    #[tactic(auto, unfolding(crate::specs::Distance::bounds))]
+    pub fn of(t: [[f64; 3]; 3]) -> Self
+        ensures { result ≡ Spec.bounds t }
+    {
+        Bounds {
+            lo: [lowest(t, 0), lowest(t, 1), lowest(t, 2)],
+            hi: [highest(t, 0), highest(t, 1), highest(t, 2)],
+        }
+    }
+
+    // How far two boxes are apart along one axis.
+    #[tactic(auto, unfolding(crate::specs::Distance::gap_between))]
+    fn gap(self, other: Bounds, axis: usize) -> f64
+        requires { axis < 3 }
+        ensures { result ≡ Spec.gap_between self other axis }
+    {
+        let above = self.lo[axis] - other.hi[axis];
+        let below = other.lo[axis] - self.hi[axis];
+        ieee754::max(ieee754::max(above, below), 0.0)
+    }
+
+    #[tactic(auto, unfolding(crate::specs::Distance::bounds_distance_squared))]
+    pub fn distance_squared(self, other: Bounds) -> f64
+        ensures { result ≡ Spec.bounds_distance_squared self other }
+    {
+        let x = self.gap(other, 0);
+        let y = self.gap(other, 1);
+        let z = self.gap(other, 2);
+        0.0 + x * x + y * y + z * z
+    }
 }
 
 pub fn triangle_aabb_distance_squared(a: [[f64; 3]; 3], b: [[f64; 3]; 3]) -> f64
     ensures { result ≡ Spec.triangle_aabb_distance_squared a b }
 {
-    let x = gap(a, b, 0);
-    let y = gap(a, b, 1);
-    let z = gap(a, b, 2);
-    0.0 + x * x + y * y + z * z
+    Bounds::of(a).distance_squared(Bounds::of(b))
 }
 
+#[tactic(auto, unfolding(crate::specs::Distance::triangle_max_edge_squared))]
 pub fn triangle_max_edge_squared(t: [[f64; 3]; 3]) -> f64
     ensures { result ≡ Spec.triangle_max_edge_squared t }
 {

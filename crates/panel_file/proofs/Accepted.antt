@@ -1,15 +1,18 @@
 -- What each test that is off says of a file: a header is there, the length is due, nodes and panels stand within it. Assumes nothing.
-use mathlib.Core.Path.{◌≡◌, refl, sym, ap, ◌∙◌, subst}
+use mathlib.Core.Path.{◌≡◌, sym, ap, ◌∙◌}
 use mathlib.Core.Logic.{◌↔◌}
-use mathlib.Core.Bool.{true, false, not}
-use mathlib.Core.List.{List, [], ◌∷◌, ◌++◌}
+use mathlib.Core.Bool.{false, not}
+use mathlib.Core.List.{List, [], ◌∷◌}
 use Prim.Native.Nat.{ℕ, ◌^◌, ◌<◌}
 use native.Mathlib.Omega.{arith}
-use borrow.Author.Tests.{ltb-false, le-ltb, eq-eqb, ne_eqb, eqb-true, not-false}
+use borrow.Author.Tests.{ltb-false, le-ltb, eq-eqb, eqb-true, not-false}
 use lib.Dec.{ltb, eqb}
 use lib.ListN.{length, get_or}
 use Rattle.refusal.specs.Numbers.{output_length}
 use Rattle.refusal.specs.Checks.{check, first}
+use Rattle.refusal.specs.Outcome.{number}
+use Rattle.refusal.specs.declared.Refusal.{Refusal}
+use Rattle.refusal.proofs.Outcome.{never_0}
 use Rattle.refusal.proofs.Checks.{none-applies, first_stopped, first-passed}
 use Rattle.mesh.specs.Conditions.{WithinLimits}
 use Rattle.mesh.specs.Mesh.{nnode, ntri, passes_limits, some_misses_node, some_zero_area}
@@ -17,10 +20,9 @@ use Rattle.refusal.proofs.Tests.{or_off, differ_off}
 use Rattle.lists.proofs.Columns.{columns_off}
 use Rattle.mesh.proofs.Refusals.{limits_off as mesh-limits}
 use Rattle.panel_file.specs.Conditions.{Marked, LengthDue, MeshColumnsDue}
-use Rattle.panel_file.proofs.Numbers.{bound}
 use Rattle.panel_file.proofs.Decoded.{nodes, panels}
 use Rattle.panel_file.specs.LittleEndian.{little_endian}
-use Rattle.panel_file.specs.PanelFile.{version, header, length_due, node_count, panel_count, decode, Bytes, marks_differ, length_differs, file_checks, file_refusal, Lengths, mesh_columns_differ, read_refusal, Holds}
+use Rattle.panel_file.specs.PanelFile.{version, header, length_due, node_count, panel_count, decode, marks_differ, length_differs, file_checks, file_refusal, Lengths, mesh_columns_differ, read_refusal, Holds}
 
 pub marked : (b : List ℕ) → marks_differ b ≡ false → Marked b
 unfolding marks_differ
@@ -45,12 +47,6 @@ limits_off n p b =
 counted : (extra : ℕ) (b : List ℕ) (n p d : ℕ) → n ≡ node_count b → p ≡ panel_count b → d ≡ length_due extra n p → d ≡ length_due extra (node_count b) (panel_count b)
 counted extra b n p d en ep ed = ed ∙ (λ i. length_due extra (en i) (ep i))
 
-pub length_on : (extra : ℕ) (b : List ℕ) (n p d : ℕ) → n ≡ node_count b → p ≡ panel_count b → d ≡ length_due extra n p → (length b ≡ d → ⊥) → length_differs extra b ≡ true
-unfolding length_differs
-length_on extra b n p d en ep ed h =
-    let e = counted extra b n p d en ep ed in
-    ap not (ap (eqb (length b)) (sym e) ∙ ne_eqb (length b) d h)
-
 pub length_off : (extra : ℕ) (b : List ℕ) (n p d : ℕ) → n ≡ node_count b → p ≡ panel_count b → d ≡ length_due extra n p → length b ≡ d → length_differs extra b ≡ false
 unfolding length_differs
 length_off extra b n p d en ep ed h =
@@ -70,13 +66,6 @@ unfolding length_due
 holds extra b n p en ep ln lp e =
     record { nodes = en; few_nodes = ln; few_panels = omega arith; long = omega (arith, length-due extra b e) }
 
--- the same where the file's own counts bound n and p
-pub whole : (extra : ℕ) (b : List ℕ) → Bytes b → length_differs extra b ≡ false → Holds (node_count b) b
-whole extra b h e = holds extra b (node_count b) (panel_count b) refl refl (bound 2 b 5 h) (bound 2 b 7 h) e
-
-pub with_count : (n : ℕ) (b : List ℕ) → n ≡ node_count b → Holds (node_count b) b → Holds n b
-with_count n b e h = subst (λ (m : ℕ). Holds m b) (sym e) h
-
 -- ---- a file that was not refused
 pub record Clean (max_nodes max_panels extra : ℕ) (b : List ℕ) : Type 0 where
   pub marks : marks_differ b ≡ false
@@ -92,23 +81,16 @@ clean n p extra b e =
     record { marks = v.0; limits = v.1.0; long = v.1.1.0; present = v.1.1.1.0; areas = v.1.1.1.1.0 }
 
 -- ---- the reader's call: the file's number stops it, or the columns decide
-pub file_stopped : (n p : ℕ) (b : List ℕ) (l : Lengths) (r : ℕ) → r ≡ file_refusal n p 0 b → (r ≡ 0 → ⊥) → r ≡ read_refusal n p b l
+pub file_stopped : (n p : ℕ) (b : List ℕ) (l : Lengths) (r : Refusal) → number r ≡ file_refusal n p 0 b → number r ≡ read_refusal n p b l
 unfolding file_refusal read_refusal
-file_stopped n p b l r e h = e ∙ sym (first_stopped (file_checks n p 0 b) _ (λ z. h (e ∙ z)))
+file_stopped n p b l r e = e ∙ sym (first_stopped (file_checks n p 0 b) _ (λ z. never_0 r (e ∙ z)))
 
-pub file-passed : (n p : ℕ) (b : List ℕ) (l : Lengths) → file_refusal n p 0 b ≡ 0 → read_refusal n p b l ≡ first (check output_length (mesh_columns_differ b l) ∷ [])
+pub file-passed : (n p : ℕ) (b : List ℕ) (l : Lengths) → 0 ≡ file_refusal n p 0 b → read_refusal n p b l ≡ first (check output_length (mesh_columns_differ b l) ∷ [])
 unfolding file_refusal file_checks read_refusal
-file-passed n p b l e = first-passed (file_checks n p 0 b) _ ((none-applies (file_checks n p 0 b) tt).0 e)
+file-passed n p b l e = first-passed (file_checks n p 0 b) _ ((none-applies (file_checks n p 0 b) tt).0 (sym e))
 
 pub mesh-columns_off : (b : List ℕ) (l : Lengths) → (mesh_columns_differ b l ≡ false) ↔ MeshColumnsDue b l
 mesh-columns_off b l =
     let n = columns_off (node_count b) l.x l.y l.z in
     let p = columns_off (panel_count b) l.t0 l.t1 l.t2 in
     (λ e. let o = or_off _ _ e in record { nodes = n.0 o.0; panels = p.0 o.1 }, λ h. rw (n.1 h.nodes, p.1 h.panels))
-
--- a call that goes on: the file's length is due and the columns are of its counts
-pub ready : (n p : ℕ) (b : List ℕ) (l : Lengths) → read_refusal n p b l ≡ 0 → (length_differs 0 b ≡ false) × MeshColumnsDue b l
-unfolding read_refusal file_refusal file_checks
-ready n p b l e =
-    let v = (none-applies (file_checks n p 0 b ++ check output_length (mesh_columns_differ b l) ∷ []) tt).0 e in
-    (v.1.1.0, (mesh-columns_off b l).0 v.1.1.1.1.1.0)

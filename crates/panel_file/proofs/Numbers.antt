@@ -1,8 +1,8 @@
--- A loop reads a number from its highest byte down, one byte a turn (`turn`); j bytes are below 256 ^ j. Assumes nothing.
+-- A loop reads a number from its highest byte down, one byte a turn (`turn`); j bytes are below 256 ^ j; two counts have a product that fits a word. Assumes nothing.
 use mathlib.Core.Path.{◌≡◌, sym, ap, ◌∙◌, subst}
 use mathlib.Core.List.{List}
 use Prim.Native.Nat.{ℕ, zero, suc, ◌+◌, ◌-◌, ◌*◌, ◌^◌, ◌≤◌, ◌<◌}
-use native.Mathlib.Nat.{pow-suc, pow-le-pow_right, lt_of_lt_of_le}
+use native.Mathlib.Nat.{mul-le-mul, pow-suc, pow-le-pow_right, lt_of_lt_of_le}
 use native.Mathlib.Omega.{arith}
 use lib.ListN.{get_or}
 use Rattle.panel_file.specs.LittleEndian.{little_endian}
@@ -52,3 +52,7 @@ all_read w k from n b z e =
     let c : w - k ≡ w = omega arith in
     let a : from + k ≡ from = omega arith in
     e ∙ (λ i. little_endian (c i) b (a i))
+
+-- ---- values behind a file's panels
+pub few_values : (a n : ℕ) → a < 2 ^ 16 → n < 2 ^ 16 → a * n ≤ 2 ^ 32
+few_values a n h l = let h' : a ≤ 2 ^ 16 = omega arith in let l' : n ≤ 2 ^ 16 = omega arith in mul-le-mul h' l'

@@ -1,27 +1,27 @@
--- A loop that puts a number's bytes, the lowest first, keeps what is left of it above them: `rest` holds the bytes from the k-th on. Assumes nothing.
-use mathlib.Core.Path.{◌≡◌, sym, ap, ◌∙◌}
-use mathlib.Core.List.{List, ◌∷◌}
-use Prim.Native.Nat.{ℕ, suc, ◌+◌, ◌-◌, ◌/◌, ◌%◌, ◌<◌}
-use native.Mathlib.Nat.{add-zero}
+-- The library's bytes of a word, the lowest first: the first w of them are those of `to_little_endian`, by induction on w. Assumes nothing.
+use mathlib.Core.Path.{◌≡◌, refl, sym, ap, ◌∙◌}
+use mathlib.Core.List.{◌∷◌}
+use Prim.Native.Nat.{ℕ, zero, suc, ◌/◌, ◌%◌, ◌^◌, ◌≤◌}
+use native.Mathlib.Nat.{pow-suc, div-one, div-div-eq-div-mul}
 use native.Mathlib.Omega.{arith}
-use lib.ListN.{get_or, drop}
-use lib.Seq.{drop-drop, get_or-drop}
+use lib.ListN.{take}
+use Rattle.std.specs.Int.{byte_at, bytes_low_first, to_le_bytes, w64}
 use Rattle.panel_file.specs.LittleEndian.{to_little_endian}
 
--- the bytes of n from the k-th on are those of rest
-abbrev pub Above : ℕ → ℕ → ℕ → ℕ → Type 0
-Above w n k rest = drop k (to_little_endian w n) ≡ to_little_endian (w - k) rest
+first : (i n : ℕ) → byte_at i n ≡ n / 256 ^ i % 256
+first zero n = ap (λ (x : ℕ). x % 256) (sym (div-one n))
+first (suc i) n = refl
 
-pub all_above : (w n : ℕ) → Above w n 0 n
-all_above w n = let e : w ≡ w - 0 = omega arith in ap (λ (v : ℕ). to_little_endian v n) e
+higher : (i n : ℕ) → n / 256 ^ suc i ≡ n / 256 ^ i / 256
+higher i n = ap (λ (x : ℕ). n / x) (pow-suc 256 i) ∙ sym (div-div-eq-div-mul n (256 ^ i) 256)
 
-module _ (w n k rest : ℕ) (l : k < w) (h : Above w n k rest) where
-  next : drop k (to_little_endian w n) ≡ rest % 256 ∷ to_little_endian (w - (k + 1)) (rest / 256)
-  unfolding to_little_endian
-  next = let e : w - k ≡ suc (w - (k + 1)) = omega arith in h ∙ ap (λ (v : ℕ). to_little_endian v rest) e
+from_place : (w k i n : ℕ) → w ≤ k → take w (bytes_low_first i k n) ≡ to_little_endian w (n / 256 ^ i)
+unfolding to_little_endian
+from_place zero k i n h = refl
+from_place (suc w) zero i n h = absurd (omega arith)
+from_place (suc w) (suc k) i n h =
+    let rest = from_place w k (suc i) n (omega arith) ∙ ap (to_little_endian w) (higher i n) in
+    (λ j. first i n j ∷ rest j)
 
-  pub byte : get_or (to_little_endian w n) k 0 ≡ rest % 256
-  byte = ap (λ (j : ℕ). get_or (to_little_endian w n) j 0) (sym (add-zero k)) ∙ sym (get_or-drop k (to_little_endian w n) 0 0) ∙ ap (λ (b : List ℕ). get_or b 0 0) next
-
-  pub above : Above w n (k + 1) (rest / 256)
-  above = sym (drop-drop 1 k (to_little_endian w n)) ∙ ap (drop 1) next
+pub lowest_bytes : (w n : ℕ) → w ≤ 8 → take w (to_le_bytes w64 n) ≡ to_little_endian w n
+lowest_bytes w n h = from_place w 8 0 n h ∙ ap (to_little_endian w) (div-one n)

@@ -5,7 +5,10 @@ use mathlib.Core.List.{List, []}
 use Prim.Native.Nat.{ℕ, ◌+◌, ◌*◌, ◌^◌, ◌≤◌, ◌<◌}
 use native.Mathlib.Omega.{arith}
 use lib.ListN.{length}
-use Rattle.refusal.proofs.Checks.{after-done, after-refused}
+use Rattle.refusal.specs.Outcome.{number}
+use Rattle.refusal.specs.declared.Refusal.{Refusal}
+use Rattle.refusal.proofs.Outcome.{never_0, after_refusal}
+use Rattle.refusal.proofs.Checks.{after-done}
 use Rattle.refusal.proofs.Tests.{differ_off}
 use Rattle.lists.specs.Putting.{Put}
 use Rattle.lists.proofs.Putting.{both, put_whole}
@@ -17,14 +20,14 @@ use Rattle.panel_file.proofs.RoundTrip.{header-length, nodes-length, plain_lengt
 use Rattle.panel_file_write.specs.Write.{file_size, size_checks, write_refusal, Written}
 
 -- a refused call
-pub refused : (n p : ℕ) (m : Mesh) (held : List ℕ) (r : ℕ) → r ≡ write_refusal n p m (length held) → (r ≡ 0 → ⊥) → Written n p m held r held
-refused n p m held r e h = record { number = e; bytes = sym (after-refused r (encode m) held h); read = λ z. absurd (h z); back = λ z. absurd (h z) }
+pub refused : (n p : ℕ) (m : Mesh) (held : List ℕ) (r : Refusal) → number r ≡ write_refusal n p m (length held) → Written n p m held (number r) held
+refused n p m held r e = record { number = e; bytes = sym (after_refusal r (encode m) held); read = λ z. absurd (never_0 r z); back = λ z. absurd (never_0 r z) }
 
 -- ---- a call that goes on
-module _ (n p : ℕ) (m : Mesh) (held : List ℕ) (e : write_refusal n p m (length held) ≡ 0) where
+module _ (n p : ℕ) (m : Mesh) (held : List ℕ) (e : 0 ≡ write_refusal n p m (length held)) where
   known : Accepted n p m × (length held ≡ file_size m)
   unfolding write_refusal
-  known = let v = mesh-accepted n p m (size_checks m (length held)) tt e in (v.0, (differ_off (length held) (file_size m)).0 v.1.0)
+  known = let v = mesh-accepted n p m (size_checks m (length held)) tt (sym e) in (v.0, (differ_off (length held) (file_size m)).0 v.1.0)
 
   pub accepted : Accepted n p m
   accepted = known.0
@@ -57,7 +60,7 @@ module _ (n p : ℕ) (m : Mesh) (held : List ℕ) (e : write_refusal n p m (leng
     done sn sp h =
         let whole : left ≡ encode m = put_whole held (encode m) left to (known.1 ∙ sym (encode-length m)) file in
         record {
-          number = sym e;
+          number = e;
           bytes = whole ∙ sym (after-done 0 (encode m) held refl);
           read = λ z. ap (file_refusal n p 0) whole ∙ encode-accepted m n p accepted sn sp h;
           back = λ z. ap (λ (f : List ℕ). decode f) whole ∙ decode-encode m n p accepted sn sp h;

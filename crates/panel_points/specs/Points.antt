@@ -1,11 +1,13 @@
 -- The C interface's `coordinates` and `triangle`, three vectors as nine numbers and back; the rest is inner form: the rows of a rule and its points on a panel, in seven places for any rule. Definitions only.
 use Rattle.std.specs.Prelude.{ℕ, zero, suc, List, [], ◌∷◌, set, Float}
 use Rattle.binary64.specs.Binary64.{◌⊕◌, ◌⊖◌, ◌⊗◌, at, plus_zero, one}
+use Rattle.math.specs.Math.{Vec}
 use Rattle.tri.specs.Mapping.{Tri, corner}
 use Rattle.tri.specs.Quadrature.{quadrature_row, quadrature_count}
 use Rattle.tri.specs.declared.quadrature.QuadratureKind.{QuadratureKind}
 use Rattle.panel_points.specs.declared.Points.{Points}
 use Rattle.panel_points.specs.declared.Rows.{Rows}
+use Rattle.panel_points.specs.declared.WeightedPoints.{WeightedPoints}
 
 -- ---- three vectors as nine numbers
 unfoldable pub coordinates : Tri → List Float
@@ -45,26 +47,29 @@ rows_of kind = record {
 }
 
 -- ---- the points of a rule on a panel
--- mapPoint's coordinate at place k, of that coordinate of the corners and the corners' shares
-abbrev pub mixed : List Float → List Float → List Float → Float → Float → Float → ℕ → Float
-mixed first second third a b c k = a ⊗ at first k ⊕ b ⊗ at second k ⊕ c ⊗ at third k
+-- point k
+abbrev pub point : Points → ℕ → Vec
+point p k = at p.x k ∷ at p.y k ∷ at p.z k ∷ []
 
-unfoldable pub along : List Float → List Float → List Float → Float → Float → Float → List Float
-along first second third a b c = seven (mixed first second third a b c) 7
+-- mapPoint's coordinate at place k, of that coordinate of the corners
+abbrev pub mixed : Rows → Float → Float → Float → ℕ → Float
+mixed rows a b c k = a ⊗ at rows.first k ⊕ b ⊗ at rows.second k ⊕ c ⊗ at rows.third k
 
-unfoldable pub weights : List Float → Float → List Float
-weights weight area = seven (λ (k : ℕ). at weight k ⊗ area) 7
+unfoldable pub along : Rows → Float → Float → Float → List Float
+along rows a b c = seven (mixed rows a b c) 7
 
-abbrev pub points_at : List Float → List Float → List Float → List Float → Points
-points_at x y z w = record { x = x; y = y; z = z; w = w }
+unfoldable pub weights : Rows → Float → List Float
+weights rows area = seven (λ (k : ℕ). at rows.weight k ⊗ area) 7
 
-unfoldable pub points_by : Rows → List Float → Float → Points
-points_by rows v area = record {
-  x = along rows.first rows.second rows.third (at v 0) (at v 3) (at v 6);
-  y = along rows.first rows.second rows.third (at v 1) (at v 4) (at v 7);
-  z = along rows.first rows.second rows.third (at v 2) (at v 5) (at v 8);
-  w = weights rows.weight area;
+unfoldable pub points_by : Rows → Tri → Float → WeightedPoints
+points_by rows t area = record {
+  points = record {
+    x = along rows (at (corner t 0) 0) (at (corner t 1) 0) (at (corner t 2) 0);
+    y = along rows (at (corner t 0) 1) (at (corner t 1) 1) (at (corner t 2) 1);
+    z = along rows (at (corner t 0) 2) (at (corner t 1) 2) (at (corner t 2) 2);
+  };
+  weight = weights rows area;
 }
 
-abbrev pub points_of : QuadratureKind → List Float → Float → Points
+abbrev pub points_of : QuadratureKind → Tri → Float → WeightedPoints
 points_of kind = points_by (rows_of kind)

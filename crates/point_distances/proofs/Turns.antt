@@ -1,45 +1,46 @@
--- A loop that fills an output from its front, one row of n numbers a turn: Filling's laws of a run, from index 0. What a whole run has at an index.
+-- Loops that write one number a turn, from index start on: what holds of each number after a turn. Rows of n numbers: where they begin and end. What a whole run from the front has at an index.
 use mathlib.Core.Path.{◌≡◌, sym, ap, ◌∙◌, subst}
-use mathlib.Core.List.{List, [], ◌∷◌, ◌++◌}
-use Prim.Native.Nat.{ℕ, ◌+◌, ◌*◌, ◌%◌, ◌≤◌, ◌<◌, zero-le}
-use native.Mathlib.Nat.{le_of_eq, lt_of_lt_of_le, zero-add, suc-mul, mul-le-mul, mul-le-mul_right}
-use native.Mathlib.Numerals.{add-one}
+use mathlib.Core.List.{List, ◌++◌}
+use Prim.Native.Nat.{ℕ, ◌+◌, ◌*◌, ◌%◌, ◌≤◌, ◌<◌}
+use native.Mathlib.Nat.{zero-add, suc-mul, mul-le-mul, mul-le-mul_right}
 use native.Mathlib.Omega.{arith}
-use lib.ListN.{take, drop}
-use lib.Seq.{get_or-take, take-paste, ext_get_or}
-use lib.Ieee.{Float, nan}
 use lib.Arith.{digits_div, digits_mod}
+use lib.ListN.{length, set, take, drop}
+use lib.Seq.{get_or-set_same, get_or-set_other, ext_get_or}
+use lib.Ieee.{Float, nan}
 use Rattle.binary64.specs.Binary64.{at}
 use Rattle.math.specs.Math.{sub3, norm3}
-use Rattle.point_distances.specs.Distances.{point, difference, distance}
 use Rattle.lists.specs.Filling.{tabulate, run}
-use Rattle.lists.proofs.Filling.{tabulate-length, tabulate_at, run-run}
+use Rattle.lists.proofs.Filling.{tabulate-length, tabulate_at}
+use Rattle.lists.proofs.Indices.{one_more}
+use Rattle.lists.proofs.Runs.{run_inside}
+use Rattle.point_distances.specs.Distances.{point, distance}
+use Rattle.point_distances.specs.declared.PointColumns.{PointColumns}
 
-pub row_fits : (i n : ℕ) → i < n → i * n + n ≤ n * n
-row_fits i n h = subst (λ (k : ℕ). k ≤ n * n) (suc-mul i n) (mul-le-mul_right n h)
+-- P holds of number i and the index i, for the first k numbers from start on
+pub turned_from : (P : ℕ → Float → Type 0) (out : List Float) (start k : ℕ) (x : Float) → start + k < length out → ((i : ℕ) → i < k → P i (at out (start + i))) → P k x
+    → (i : ℕ) → i < k + 1 → P i (at (set out (start + k) x) (start + i))
+turned_from P out start k x m all here =
+    one_more (λ (i : ℕ). P i (at (set out (start + k) x) (start + i))) k
+    (λ i h. subst (P i) (sym (get_or-set_other out (start + k) (start + i) x nan (λ e. omega arith))) (all i h))
+    (subst (P k) (sym (get_or-set_same out (start + k) x nan m)) here)
 
-rows_is : (i n : ℕ) → i * n + n ≡ (i + 1) * n
-rows_is i n = sym (ap (λ (k : ℕ). k * n) (add-one i) ∙ suc-mul i n)
+-- the same from the front
+pub turned : (P : ℕ → Float → Type 0) (out : List Float) (k : ℕ) (x : Float) → k < length out → ((i : ℕ) → i < k → P i (at out i)) → P k x
+    → (i : ℕ) → i < k + 1 → P i (at (set out k x) i)
+turned P out k x m all here =
+    one_more (λ (i : ℕ). P i (at (set out k x) i)) k
+    (λ i h. subst (P i) (sym (get_or-set_other out k i x nan (λ e. omega arith))) (all i h))
+    (subst (P k) (sym (get_or-set_same out k x nan m)) here)
 
--- row i of n, where the first i rows are in place
-pub row_next : (held now new : List Float) (n : ℕ) (g h : ℕ → Float) (i : ℕ) → i < n → now ≡ run held 0 (n * n) g (i * n) → new ≡ run now (i * n) n h n
-    → ((j : ℕ) → j < n → h j ≡ g (i * n + j)) → new ≡ run held 0 (n * n) g ((i + 1) * n)
-row_next held now new n g h i l w u all =
-    u ∙ ap (λ (r : List Float). run r (i * n) n h n) w ∙ run-run held (n * n) g h (i * n) n (row_fits i n l) all
-    ∙ ap (run held 0 (n * n) g) (rows_is i n)
+-- row i of the first m
+pub row_fits : (i n m : ℕ) → i < m → i * n + n ≤ m * n
+row_fits i n m h = subst (λ (k : ℕ). k ≤ m * n) (suc-mul i n) (mul-le-mul_right n h)
 
 pub pairs_fit : (n : ℕ) → n ≤ 7 → n * n ≤ 49
 pairs_fit n h = mul-le-mul h h
 
--- ---- what a whole run from the front has
-
-pub front_at : (held d : List Float) (c : ℕ) (g : ℕ → Float) (k : ℕ) → d ≡ run held 0 c g c → k < c → at d k ≡ g k
-front_at held d c g k e m =
-    let all = tabulate c g in
-    ap (λ (r : List Float). at r k) e ∙ sym (get_or-take (0 + c) (run held 0 c g c) k nan (subst (λ (j : ℕ). k < j) (sym (zero-add c)) m))
-    ∙ ap (λ (r : List Float). at r k) (take-paste held 0 all c zero-le (le_of_eq (sym (tabulate-length c g))))
-    ∙ get_or-take c all k nan m ∙ tabulate_at c g k m
-
+-- ---- a whole run from the front
 pub front_same : (held : List Float) (c : ℕ) (g h : ℕ → Float) → ((k : ℕ) → k < c → g k ≡ h k) → run held 0 c g c ≡ run held 0 c h c
 front_same held c g h e =
     ap (λ (r : List Float). take c r ++ drop (0 + c) held)
@@ -49,22 +50,13 @@ front_same held c g h e =
     tabulate_at c g k q ∙ e k q ∙ sym (tabulate_at c h k q)))
 
 -- the distance of point i from point j, in the list of all
-pub pair_at : (held d a b c x y z : List Float) (n i j : ℕ) → d ≡ run held 0 (n * n) (distance a b c x y z n) (n * n) → i < n → j < n
-    → at d (i * n + j) ≡ norm3 (sub3 (point a b c i) (point x y z j))
+pub pair_at : (held d : List Float) (p q : PointColumns) (n i j : ℕ) → n * n ≤ length held → d ≡ run held 0 (n * n) (distance p q n) (n * n) → i < n → j < n
+    → at d (i * n + j) ≡ norm3 (sub3 (point p i) (point q j))
 unfolding distance
-pair_at held d a b c x y z n i j e h m =
-    front_at held d (n * n) (distance a b c x y z n) (i * n + j) e (lt_of_lt_of_le (within (i * n) j n m) (row_fits i n h))
-    ∙ ap (λ (k : ℕ). norm3 (sub3 (point a b c k) (point x y z ((i * n + j) % n)))) (digits_div i m)
-    ∙ ap (λ (k : ℕ). norm3 (sub3 (point a b c i) (point x y z k))) (digits_mod i m)
-  where
-    within : (r j n : ℕ) → j < n → r + j < r + n
-    within r j n h = omega arith
-
--- pair k's distance is the length of its differences
-pub distance_is : (dx dy dz a b c x y z : List Float) (n k : ℕ) → at dx k ≡ difference a x n k → at dy k ≡ difference b y n k → at dz k ≡ difference c z n k
-    → norm3 (point dx dy dz k) ≡ distance a b c x y z n k
-unfolding distance sub3
-distance_is dx dy dz a b c x y z n k e f g =
-    ap (λ (r : Float). norm3 (r ∷ at dy k ∷ at dz k ∷ [])) e
-    ∙ ap (λ (r : Float). norm3 (difference a x n k ∷ r ∷ at dz k ∷ [])) f
-    ∙ ap (λ (r : Float). norm3 (difference a x n k ∷ difference b y n k ∷ r ∷ [])) g
+pair_at held d p q n i j l e h m =
+    let inside : i * n + j < n * n = omega (arith, row_fits i n n h) in
+    ap (λ (r : List Float). at r (i * n + j)) e
+    ∙ ap (λ (k : ℕ). at (run held 0 (n * n) (distance p q n) (n * n)) k) (sym (zero-add (i * n + j)))
+    ∙ run_inside nan held 0 (n * n) (distance p q n) (omega (arith, l)) (n * n) (i * n + j) (omega arith) inside
+    ∙ ap (λ (k : ℕ). norm3 (sub3 (point p k) (point q ((i * n + j) % n)))) (digits_div i m)
+    ∙ ap (λ (k : ℕ). norm3 (sub3 (point p i) (point q k))) (digits_mod i m)

@@ -9,109 +9,99 @@ ghost use Rattle.square_root.specs.Estimate.{root_estimate};
 ghost use Rattle.length_lanes.specs.Length.{SquareOf};
 ghost use Rattle.lists.specs.Filling.{run};
 ghost use Rattle.point_distances.specs.Distances as Spec;
-ghost use Rattle.point_distances.specs.Distances.{max_pairs};
+ghost use Rattle.point_distances.specs.Distances.{max_pairs, vector};
 ghost use Rattle.tri.specs.Quadrature.{max_points};
 
 // The most points that a rule has, squared.
 pub const MAX_PAIRS: usize = 49;
 
+// The coordinates of points, lent.
+#[derive(Clone, Copy)]
+pub struct PointColumns<'a> {
+    pub x: &'a [f64],
+    pub y: &'a [f64],
+    pub z: &'a [f64],
+}
+
+// The vectors between the points of all pairs, each coordinate in an array of its own.
+#[derive(Clone, Copy)]
+struct Vectors {
+    x: [f64; MAX_PAIRS],
+    y: [f64; MAX_PAIRS],
+    z: [f64; MAX_PAIRS],
+}
+
 // q less each of the first n numbers, from index start.
-fn difference_row(q: f64, x: &[f64], n: usize, start: usize, out: &mut [f64])
-    requires { (n ≤ length x.now) × (start + n ≤ length out.old) }
-    ensures { out.new ≡ run out.old start n (λ j. q ⊖ at x.now j) n }
+fn difference_row(q: f64, x: &[f64], n: usize, start: usize, out: &mut [f64; MAX_PAIRS])
+    requires { (n ≤ length x.now) × (start + n ≤ max_pairs) }
+    ensures row { (j : ℕ) → j < n → at out.new (start + j) ≡ q ⊖ at x.now j }
+    ensures before { (k : ℕ) → k < start → at out.new k ≡ at out.old k }
 {
-    let mut j = 0;
-    while j < n {
+    for j in 0..n {
         out[start + j] = q - x[j];
-        j += 1;
     }
 }
 
-// One coordinate of all pairs: the first n numbers a less the first n numbers x.
-fn differences(a: &[f64], x: &[f64], n: usize, out: &mut [f64])
-    requires { (n ≤ length a.now) × (n ≤ length x.now) × (n ≤ max_points) × (n * n ≤ length out.old) }
-    ensures { out.new ≡ run out.old 0 (n * n) (Spec.difference a.now x.now n) (n * n) }
+// One coordinate of all pairs, point i of the first n less point j at i * n + j.
+fn differences(a: &[f64], x: &[f64], n: usize, out: &mut [f64; MAX_PAIRS])
+    requires { (n ≤ length a.now) × (n ≤ length x.now) × (n ≤ max_points) }
+    ensures { (i j : ℕ) → i < n → j < n → at out.new (i * n + j) ≡ at a.now i ⊖ at x.now j }
 {
-    let mut i = 0;
-    while i < n {
+    for i in 0..n {
         difference_row(a[i], x, n, i * n, out);
-        i += 1;
     }
 }
 
-// The squares of the lengths of the first count vectors (x, y, z), or NaN where a rounding is not settled.
-fn square_lanes(x: &[f64], y: &[f64], z: &[f64], count: usize, out: &mut [f64])
-    requires { (count ≤ length x.now) × (count ≤ length y.now) × (count ≤ length z.now) × (count ≤ length out.old) }
-    ensures out_value { out.new ≡ run out.old 0 count (Spec.square_at x.now y.now z.now) count }
-    ensures by_index { (k : ℕ) → k < count → SquareOf (Spec.point x.now y.now z.now k) (at out.new k) }
+// The squares of the lengths of the first count vectors, or NaN where a rounding is not settled.
+fn square_lanes(v: &Vectors, count: usize, out: &mut [f64; MAX_PAIRS])
+    requires { count ≤ max_pairs }
+    ensures { (k : ℕ) → k < count → SquareOf (vector v.now k) (at out.new k) }
 {
-    let mut k = 0;
-    while k < count {
-        out[k] = length_lanes::square_lane(x[k], y[k], z[k]);
-        k += 1;
+    for k in 0..count {
+        out[k] = length_lanes::square_lane(v.x[k], v.y[k], v.z[k]);
     }
 }
 
 // Guesses of the roots of the first count numbers.
-fn estimates(x: &[f64], count: usize, out: &mut [f64])
-    requires { (count ≤ length x.now) × (count ≤ length out.old) }
-    ensures { out.new ≡ run out.old 0 count (λ k. root_estimate (at x.now k)) count }
+fn estimates(s: &[f64; MAX_PAIRS], count: usize, out: &mut [f64; MAX_PAIRS])
+    requires { count ≤ max_pairs }
+    ensures { (k : ℕ) → k < count → at out.new k ≡ root_estimate (at s.now k) }
 {
-    let mut k = 0;
-    while k < count {
-        out[k] = square_root::root_estimate(x[k]);
-        k += 1;
+    for k in 0..count {
+        out[k] = square_root::root_estimate(s[k]);
     }
 }
 
-// The lengths of the first count vectors (x, y, z), by their squares s.
-fn lengths(x: &[f64], y: &[f64], z: &[f64], s: &[f64], near: &[f64], count: usize, out: &mut [f64])
-    requires count_in_bounds { (count ≤ length x.now) × (count ≤ length y.now) × (count ≤ length z.now) }
-    requires count_in_bounds_2 { (count ≤ length s.now) × (count ≤ length near.now) × (count ≤ length out.old) }
-    requires by_index { (k : ℕ) → k < count → SquareOf (Spec.point x.now y.now z.now k) (at s.now k) }
-    ensures { out.new ≡ run out.old 0 count (λ k. norm3 (Spec.point x.now y.now z.now k)) count }
+// The lengths of the first count vectors.
+fn lengths(v: &Vectors, count: usize, out: &mut [f64])
+    requires { (count ≤ max_pairs) × (count ≤ length out.old) }
+    ensures { out.new ≡ run out.old 0 count (λ k. norm3 (vector v.now k)) count }
 {
-    let mut k = 0;
-    while k < count {
-        out[k] = length_lanes::length_of(x[k], y[k], z[k], s[k], near[k]);
-        k += 1;
+    let mut s = [0.0; MAX_PAIRS];
+    let mut g = [0.0; MAX_PAIRS];
+    square_lanes(v, count, &mut s);
+    estimates(&s, count, &mut g);
+    for k in 0..count {
+        out[k] = length_lanes::length_of(v.x[k], v.y[k], v.z[k], s[k], g[k]);
     }
 }
 
-// The lengths of the first count vectors (x, y, z).
-fn norms(x: &[f64], y: &[f64], z: &[f64], count: usize, out: &mut [f64])
-    requires count_in_bounds { (count ≤ length x.now) × (count ≤ length y.now) × (count ≤ length z.now) }
-    requires count_le_max_pairs { (count ≤ max_pairs) × (count ≤ length out.old) }
-    ensures { out.new ≡ run out.old 0 count (λ k. norm3 (Spec.point x.now y.now z.now k)) count }
+// The distance from point i of p to point j of q at i * n + j, for the first n points of each.
+// Into an output that is lent, here and above: an array that is handed back is copied, and makes far pairs 3 to 10 % slower.
+// The loops above go by an index: up to five arrays are read and written at one index, so a zip is no plainer.
+pub fn distances(p: &PointColumns, q: &PointColumns, n: usize, out: &mut [f64])
+    requires from { (n ≤ length p.now.x.now) × (n ≤ length p.now.y.now) × (n ≤ length p.now.z.now) }
+    requires to { (n ≤ length q.now.x.now) × (n ≤ length q.now.y.now) × (n ≤ length q.now.z.now) }
+    requires fits { (n ≤ max_points) × (n * n ≤ length out.old) }
+    ensures { out.new ≡ run out.old 0 (n * n) (Spec.distance p.now q.now n) (n * n) }
 {
-    let mut square = [0.0; MAX_PAIRS];
-    let mut near = [0.0; MAX_PAIRS];
-    square_lanes(x, y, z, count, &mut square);
-    estimates(&square, count, &mut near);
-    lengths(x, y, z, &square, &near, count, out);
-}
-
-// The distance from point i of (a, b, c) to point j of (x, y, z) at i * n + j, for the first n points of each.
-pub fn distances(
-    a: &[f64],
-    b: &[f64],
-    c: &[f64],
-    x: &[f64],
-    y: &[f64],
-    z: &[f64],
-    n: usize,
-    out: &mut [f64],
-)
-    requires n_in_bounds { (n ≤ length a.now) × (n ≤ length b.now) × (n ≤ length c.now) }
-    requires n_in_bounds_2 { (n ≤ length x.now) × (n ≤ length y.now) × (n ≤ length z.now) }
-    requires n_le_max_points { (n ≤ max_points) × (n * n ≤ length out.old) }
-    ensures { out.new ≡ run out.old 0 (n * n) (Spec.distance a.now b.now c.now x.now y.now z.now n) (n * n) }
-{
-    let mut dx = [0.0; MAX_PAIRS];
-    let mut dy = [0.0; MAX_PAIRS];
-    let mut dz = [0.0; MAX_PAIRS];
-    differences(a, x, n, &mut dx);
-    differences(b, y, n, &mut dy);
-    differences(c, z, n, &mut dz);
-    norms(&dx, &dy, &dz, n * n, out);
+    let mut v = Vectors {
+        x: [0.0; MAX_PAIRS],
+        y: [0.0; MAX_PAIRS],
+        z: [0.0; MAX_PAIRS],
+    };
+    differences(p.x, q.x, n, &mut v.x);
+    differences(p.y, q.y, n, &mut v.y);
+    differences(p.z, q.z, n, &mut v.z);
+    lengths(&v, n * n, out);
 }

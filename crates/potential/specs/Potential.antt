@@ -1,5 +1,5 @@
 -- boundary_element/triangle_potential.rs: potential of a uniformly loaded flat triangle, its gradient, and contact. Definitions only.
-use Rattle.std.specs.Prelude.{ℕ, ◌+◌, ◌*◌, Bool, false, cond, ◌&&◌, List, [], ◌∷◌, Float}
+use Rattle.std.specs.Prelude.{ℕ, Bool, false, cond, ◌&&◌, [], ◌∷◌, Float}
 use Rattle.std.specs.Bool.{beq}
 use Rattle.std.specs.Float.{inf}
 use Rattle.std.specs.Float.Ieee.{lt, le, eq, ne}
@@ -11,13 +11,6 @@ use Rattle.tri.specs.Mapping.{Tri, corner, raw_normal}
 use Rattle.tri.specs.Tri3.{closest_point}
 use Rattle.potential.specs.declared.Edge.{Edge}
 use Rattle.potential.specs.declared.UniformTriangle.{UniformTriangle}
-
--- ---- three vectors as nine numbers
-unfoldable pub joined : Vec → Vec → Vec → List Float
-joined a b c = at a 0 ∷ at a 1 ∷ at a 2 ∷ at b 0 ∷ at b 1 ∷ at b 2 ∷ at c 0 ∷ at c 1 ∷ at c 2 ∷ []
-
-unfoldable pub vector : List Float → ℕ → Vec
-vector v i = at v (i * 3) ∷ at v (i * 3 + 1) ∷ at v (i * 3 + 2) ∷ []
 
 -- ---- the geometry that is kept
 unfoldable pub longer : Float → Float → Float
@@ -33,10 +26,10 @@ edge_between a b normal =
 -- the record, of the corners, the normal and the three edges
 unfoldable pub uniform_triangle_of : Tri → Vec → Edge → Edge → Edge → UniformTriangle
 uniform_triangle_of t normal a b c = record {
-  nodes = joined (corner t 0) (corner t 1) (corner t 2);
+  nodes = t;
   normal = normal;
-  edge_tangent = joined a.tangent b.tangent c.tangent;
-  edge_outward = joined a.outward b.outward c.outward;
+  edge_tangent = a.tangent ∷ b.tangent ∷ c.tangent ∷ [];
+  edge_outward = a.outward ∷ b.outward ∷ c.outward ∷ [];
   edge_length = a.length ∷ b.length ∷ c.length ∷ [];
   max_edge = longer (longer (longer plus_zero a.length) b.length) c.length;
 }
@@ -51,17 +44,17 @@ uniform_triangle t =
     uniform_triangle_of t normal a b c
 
 abbrev pub node : UniformTriangle → ℕ → Vec
-node p i = vector p.nodes i
+node p i = corner p.nodes i
 
 abbrev pub tangent : UniformTriangle → ℕ → Vec
-tangent p edge = vector p.edge_tangent edge
+tangent p edge = corner p.edge_tangent edge
 
 abbrev pub outward : UniformTriangle → ℕ → Vec
-outward p edge = vector p.edge_outward edge
+outward p edge = corner p.edge_outward edge
 
 -- the method nodes
-unfoldable pub corners : UniformTriangle → Tri
-corners p = node p 0 ∷ node p 1 ∷ node p 2 ∷ []
+abbrev pub corners : UniformTriangle → Tri
+corners p = p.nodes
 
 -- ---- the integral of 1/distance over an edge
 -- the point is on the edge's line: outside the edge, or on it

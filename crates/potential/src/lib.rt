@@ -10,21 +10,8 @@ const SURFACE_EPSILON_FACTOR: f64 = 64.0;
 // f64::EPSILON
 const EPSILON: f64 = 2.220446049250313e-16;
 
-// ---- three vectors as nine numbers, since a struct holds no array of arrays
-fn joined(a: [f64; 3], b: [f64; 3], c: [f64; 3]) -> [f64; 9]
-    ensures { result ≡ Spec.joined a b c }
-{
-    [a[0], a[1], a[2], b[0], b[1], b[2], c[0], c[1], c[2]]
-}
-
-pub fn vector(v: [f64; 9], i: usize) -> [f64; 3]
-    requires { i < 3 }
-    ensures { result ≡ Spec.vector v i }
-{
-    [v[i * 3], v[i * 3 + 1], v[i * 3 + 2]]
-}
-
 // ---- the geometry that is kept
+#[tactic(auto, unfolding(crate::specs::Potential::longer))]
 fn longer(a: f64, b: f64) -> f64
     ensures { result ≡ Spec.longer a b }
 {
@@ -39,6 +26,7 @@ struct Edge {
 }
 
 // The edge from a to b of a triangle with that normal.
+#[tactic(auto, unfolding(crate::specs::Potential::edge_between))]
 fn edge_between(a: [f64; 3], b: [f64; 3], normal: [f64; 3]) -> Edge
     ensures { result ≡ Spec.edge_between a b normal }
 {
@@ -65,6 +53,7 @@ pub fn integral_on_line(start: f64, end: f64) -> f64
 }
 
 // Integral of 1/distance over a segment of a line at the distance transverse.
+#[tactic(auto, unfolding(crate::specs::Potential::line_integral))]
 fn line_integral(start: f64, end: f64, transverse: f64) -> f64
     ensures { result ≡ Spec.line_integral start end transverse }
 {
@@ -75,6 +64,7 @@ fn line_integral(start: f64, end: f64, transverse: f64) -> f64
 }
 
 // Signed solid angle, of the vectors from the corners to the point.
+#[tactic(auto, unfolding(crate::specs::Potential::solid_angle))]
 fn solid_angle(r0: [f64; 3], r1: [f64; 3], r2: [f64; 3]) -> f64
     ensures { result ≡ Spec.solid_angle r0 r1 r2 }
 {
@@ -90,12 +80,14 @@ fn solid_angle(r0: [f64; 3], r1: [f64; 3], r2: [f64; 3]) -> f64
 }
 
 // Whether x is below 1e100 in size, which a NaN is not.
+#[tactic(auto, unfolding(crate::specs::Moderate::moderate))]
 fn moderate(x: f64) -> bool
     ensures { result ≡ Moderate.moderate x }
 {
     (-1e100 < x) & (x < 1e100)
 }
 
+#[tactic(auto, unfolding(crate::specs::Moderate::moderate3))]
 fn moderate3(v: [f64; 3]) -> bool
     ensures { result ≡ Moderate.moderate3 v }
 {
@@ -103,6 +95,7 @@ fn moderate3(v: [f64; 3]) -> bool
 }
 
 // a - v * s, each element rounded after the product and after the difference.
+#[tactic(auto, unfolding(crate::specs::Potential::subtract_scaled))]
 fn subtract_scaled(a: [f64; 3], v: [f64; 3], s: f64) -> [f64; 3]
     ensures { result ≡ Spec.subtract_scaled a v s }
 {
@@ -112,102 +105,100 @@ fn subtract_scaled(a: [f64; 3], v: [f64; 3], s: f64) -> [f64; 3]
 // Geometry of a triangle, worked out one time and kept whole.
 #[derive(Clone, Copy)]
 pub struct UniformTriangle {
-    pub nodes: [f64; 9],
+    pub nodes: [[f64; 3]; 3],
     pub normal: [f64; 3],
-    pub edge_tangent: [f64; 9],
-    pub edge_outward: [f64; 9],
+    pub edge_tangent: [[f64; 3]; 3],
+    pub edge_outward: [[f64; 3]; 3],
     pub edge_length: [f64; 3],
     pub max_edge: f64,
 }
 
 impl UniformTriangle {
+    #[tactic(auto, unfolding(crate::specs::Potential::uniform_triangle, crate::specs::Potential::uniform_triangle_of))]
     pub fn new(t: [[f64; 3]; 3]) -> Self
         ensures { result ≡ Spec.uniform_triangle t }
     {
         let normal = math::normalize3(tri::mapping::raw_normal(t));
-        let a = edge_between(t[0], t[1], normal);
-        let b = edge_between(t[1], t[2], normal);
-        let c = edge_between(t[2], t[0], normal);
-        let nodes = joined(t[0], t[1], t[2]);
-        let a_tangent = a.tangent;
-        let b_tangent = b.tangent;
-        let c_tangent = c.tangent;
-        let edge_tangent = joined(a_tangent, b_tangent, c_tangent);
-        let a_outward = a.outward;
-        let b_outward = b.outward;
-        let c_outward = c.outward;
-        let edge_outward = joined(a_outward, b_outward, c_outward);
-        let edge_length = [a.length, b.length, c.length];
-        let max_edge = longer(longer(longer(0.0, a.length), b.length), c.length);
+        let Edge {
+            tangent: t0,
+            outward: o0,
+            length: l0,
+        } = edge_between(t[0], t[1], normal);
+        let Edge {
+            tangent: t1,
+            outward: o1,
+            length: l1,
+        } = edge_between(t[1], t[2], normal);
+        let Edge {
+            tangent: t2,
+            outward: o2,
+            length: l2,
+        } = edge_between(t[2], t[0], normal);
         UniformTriangle {
-            nodes,
+            nodes: t,
             normal,
-            edge_tangent,
-            edge_outward,
-            edge_length,
-            max_edge,
+            edge_tangent: [t0, t1, t2],
+            edge_outward: [o0, o1, o2],
+            edge_length: [l0, l1, l2],
+            max_edge: longer(longer(longer(0.0, l0), l1), l2),
         }
     }
 
     pub fn nodes(self) -> [[f64; 3]; 3]
         ensures { result ≡ Spec.corners self }
     {
-        let nodes = self.nodes;
-        [vector(nodes, 0), vector(nodes, 1), vector(nodes, 2)]
+        self.nodes
     }
 
     // Distance of obs from the plane, positive on the normal's side.
+    #[tactic(auto, unfolding(crate::specs::Potential::distance_from_plane))]
     fn distance_from_plane(self, obs: [f64; 3]) -> f64
         ensures { result ≡ Spec.distance_from_plane self obs }
     {
-        let nodes = self.nodes;
-        let normal = self.normal;
-        math::dot3(math::sub3(obs, vector(nodes, 0)), normal)
+        math::dot3(math::sub3(obs, self.nodes[0]), self.normal)
     }
 
     // The edge's integral, of the vector r from the point to the edge's first node, and h, the edge line's distance along outward.
+    #[tactic(auto, unfolding(crate::specs::Potential::edge_integral_from))]
     fn edge_integral_from(self, edge: usize, r: [f64; 3], h: f64, d: f64) -> f64
         requires { edge < 3 }
         ensures { result ≡ Spec.edge_integral_from self edge r h d }
     {
-        let tangent = self.edge_tangent;
-        let along_start = math::dot3(r, vector(tangent, edge));
+        let along_start = math::dot3(r, self.edge_tangent[edge]);
         let along_end = along_start + self.edge_length[edge];
         let transverse = ieee754::sqrt(ieee754::square_add(h, d * d));
         line_integral(along_start, along_end, transverse)
     }
 
     // Integral of 1/distance over one edge.
+    #[tactic(auto, unfolding(crate::specs::Potential::edge_integral))]
     fn edge_integral(self, edge: usize, obs: [f64; 3], d: f64) -> f64
         requires { edge < 3 }
         ensures { result ≡ Spec.edge_integral self edge obs d }
     {
-        let nodes = self.nodes;
-        let outward = self.edge_outward;
-        let r = math::sub3(vector(nodes, edge), obs);
-        let h = math::dot3(r, vector(outward, edge));
+        let r = math::sub3(self.nodes[edge], obs);
+        let h = math::dot3(r, self.edge_outward[edge]);
         self.edge_integral_from(edge, r, h, d)
     }
 
+    #[tactic(auto, unfolding(crate::specs::Potential::signed_solid_angle))]
     fn signed_solid_angle(self, obs: [f64; 3]) -> f64
         ensures { result ≡ Spec.signed_solid_angle self obs }
     {
-        let nodes = self.nodes;
-        let r0 = math::sub3(obs, vector(nodes, 0));
-        let r1 = math::sub3(obs, vector(nodes, 1));
-        let r2 = math::sub3(obs, vector(nodes, 2));
+        let r0 = math::sub3(obs, self.nodes[0]);
+        let r1 = math::sub3(obs, self.nodes[1]);
+        let r2 = math::sub3(obs, self.nodes[2]);
         solid_angle(r0, r1, r2)
     }
 
     // One edge's part of the potential, added to value. Where h log(h) has the limit 0, nothing is added.
+    #[tactic(auto, unfolding(crate::specs::Potential::add_edge, crate::specs::Potential::edge_integral))]
     fn add_edge(self, edge: usize, obs: [f64; 3], d: f64, value: f64) -> f64
         requires { edge < 3 }
         ensures { result ≡ Spec.add_edge self edge obs d value }
     {
-        let nodes = self.nodes;
-        let outward = self.edge_outward;
-        let r = math::sub3(vector(nodes, edge), obs);
-        let h = math::dot3(r, vector(outward, edge));
+        let r = math::sub3(self.nodes[edge], obs);
+        let h = math::dot3(r, self.edge_outward[edge]);
         if (h == 0.0) & (d == 0.0) {
             return value;
         }
@@ -218,10 +209,9 @@ impl UniformTriangle {
     pub fn less_solid_angle(self, obs: [f64; 3], d: f64, value: f64) -> f64
         ensures { result ≡ Spec.less_solid_angle self obs d value }
     {
-        let nodes = self.nodes;
-        let r0 = math::sub3(obs, vector(nodes, 0));
-        let r1 = math::sub3(obs, vector(nodes, 1));
-        let r2 = math::sub3(obs, vector(nodes, 2));
+        let r0 = math::sub3(obs, self.nodes[0]);
+        let r1 = math::sub3(obs, self.nodes[1]);
+        let r2 = math::sub3(obs, self.nodes[2]);
         if (d == 0.0) & (value != 0.0) & moderate3(r0) & moderate3(r1) & moderate3(r2) {
             return value;
         }
@@ -229,6 +219,7 @@ impl UniformTriangle {
     }
 
     // Potential in metres.
+    #[tactic(auto, unfolding(crate::specs::Potential::scalar_potential))]
     pub fn scalar_potential(self, obs: [f64; 3]) -> f64
         ensures { result ≡ Spec.scalar_potential self obs }
     {
@@ -240,32 +231,33 @@ impl UniformTriangle {
     }
 
     // One edge's part of the gradient, taken from gradient. Nothing is left out on an edge.
+    #[tactic(auto, unfolding(crate::specs::Potential::subtract_edge))]
     fn subtract_edge(self, edge: usize, obs: [f64; 3], d: f64, gradient: [f64; 3]) -> [f64; 3]
         requires { edge < 3 }
         ensures { result ≡ Spec.subtract_edge self edge obs d gradient }
     {
-        let outward = self.edge_outward;
         let integral = self.edge_integral(edge, obs, d);
-        subtract_scaled(gradient, vector(outward, edge), integral)
+        subtract_scaled(gradient, self.edge_outward[edge], integral)
     }
 
     // Gradient of the potential at obs, a pure number.
+    #[tactic(auto, unfolding(crate::specs::Potential::scalar_potential_gradient))]
     pub fn scalar_potential_gradient(self, obs: [f64; 3]) -> [f64; 3]
         ensures { result ≡ Spec.scalar_potential_gradient self obs }
     {
-        let normal = self.normal;
         let d = self.distance_from_plane(obs);
         let first = self.subtract_edge(0, obs, d, [0.0, 0.0, 0.0]);
         let second = self.subtract_edge(1, obs, d, first);
         let gradient = self.subtract_edge(2, obs, d, second);
-        subtract_scaled(gradient, normal, self.signed_solid_angle(obs))
+        subtract_scaled(gradient, self.normal, self.signed_solid_angle(obs))
     }
 
     // Whether obs is on the triangle, but for rounding.
+    #[tactic(auto, unfolding(crate::specs::Potential::contains_on_surface))]
     pub fn contains_on_surface(self, obs: [f64; 3]) -> bool
         ensures { result ≡ Spec.contains_on_surface self obs }
     {
-        let closest = tri::tri3::closest_point(obs, self.nodes());
+        let closest = tri::tri3::closest_point(obs, self.nodes);
         let delta = math::sub3(obs, closest);
         let scale = ieee754::max(math::norm3(obs), self.max_edge);
         let tolerance = SURFACE_EPSILON_FACTOR * EPSILON * scale;

@@ -2,89 +2,61 @@
 // the squared distances, the estimates of the roots and the elementary functions in lanes. Each number is that of one point.
 #![tactic(auto)]
 
-ghost use Rattle.std.specs.Prelude.{◌≡◌, ℕ, ◌<◌, ◌+◌, ◌/◌, ◌%◌};
+ghost use Rattle.std.specs.Prelude.{◌≡◌, ℕ, ◌<◌, ◌+◌};
 ghost use Rattle.binary64.specs.Binary64.{at, two, ◌⊗◌, ◌⊕◌, ◌⊖◌, ◌⊘◌};
 ghost use Rattle.ieee754.specs.Ieee754.{sqrt};
 ghost use Rattle.square_root.specs.Estimate.{root_estimate};
 ghost use Rattle.elementary.specs.Elementary.{asinh};
-ghost use Rattle.math.specs.Math.{norm3};
+ghost use Rattle.math.specs.Math.{norm3, sub3, dot3, cross3};
+ghost use Rattle.panel_points.specs.Points.{point};
 ghost use Rattle.potential.specs.Potential as Potential;
 ghost use Rattle.potential_lanes.specs.Seven as Spec;
 ghost use Rattle.tri.specs.Quadrature.{max_points};
 
-use potential::{UniformTriangle, integral_on_line, vector};
+use panel_points::Points;
+use potential::{UniformTriangle, integral_on_line};
+use std::array;
 use tri::quadrature::MAX_POINTS;
 
 // The distance of each point from the plane through corner with that normal.
-fn distances_from_plane(
-    corner: [f64; 3],
-    normal: [f64; 3],
-    x: [f64; MAX_POINTS],
-    y: [f64; MAX_POINTS],
-    z: [f64; MAX_POINTS],
-) -> [f64; MAX_POINTS]
-    ensures { (i : ℕ) → i < max_points → at result i ≡ Spec.from_plane corner normal (Spec.point x y z i) }
+fn distances_from_plane(corner: [f64; 3], normal: [f64; 3], points: &Points) -> [f64; MAX_POINTS]
+    ensures { (i : ℕ) → i < max_points → at result i ≡ Spec.from_plane corner normal (point points.now i) }
 {
-    let mut out = [0.0; MAX_POINTS];
-    for i in 0..MAX_POINTS {
-        out[i] = math::dot3(math::sub3([x[i], y[i], z[i]], corner), normal);
-    }
-    out
+    array::from_fn(|i| math::dot3(math::sub3(points.point(i), corner), normal))
 }
 
 // The place of node along v, of each point.
-fn places(
-    node: [f64; 3],
-    v: [f64; 3],
-    x: [f64; MAX_POINTS],
-    y: [f64; MAX_POINTS],
-    z: [f64; MAX_POINTS],
-) -> [f64; MAX_POINTS]
-    ensures { (i : ℕ) → i < max_points → at result i ≡ Spec.place node v (Spec.point x y z i) }
+fn places(node: [f64; 3], v: [f64; 3], points: &Points) -> [f64; MAX_POINTS]
+    ensures { (i : ℕ) → i < max_points → at result i ≡ Spec.place node v (point points.now i) }
 {
-    let mut out = [0.0; MAX_POINTS];
-    for i in 0..MAX_POINTS {
-        out[i] = math::dot3(math::sub3(node, [x[i], y[i], z[i]]), v);
-    }
-    out
+    array::from_fn(|i| math::dot3(math::sub3(node, points.point(i)), v))
 }
 
 // h * h + d * d
 fn squares(h: [f64; MAX_POINTS], d: [f64; MAX_POINTS]) -> [f64; MAX_POINTS]
     ensures { (i : ℕ) → i < max_points → at result i ≡ Spec.transverse_squared (at h i) (at d i) }
 {
-    let mut out = [0.0; MAX_POINTS];
-    for i in 0..MAX_POINTS {
-        out[i] = ieee754::square_add(h[i], d[i] * d[i]);
-    }
-    out
+    array::from_fn(|i| ieee754::square_add(h[i], d[i] * d[i]))
 }
 
 fn estimates(q: [f64; MAX_POINTS]) -> [f64; MAX_POINTS]
     ensures { (i : ℕ) → i < max_points → at result i ≡ root_estimate (at q i) }
 {
-    let mut out = [0.0; MAX_POINTS];
-    for i in 0..MAX_POINTS {
-        out[i] = square_root::root_estimate(q[i]);
-    }
-    out
+    array::from_fn(|i| square_root::root_estimate(q[i]))
 }
 
 // The roots, whatever the estimates g are.
 fn roots(q: [f64; MAX_POINTS], g: [f64; MAX_POINTS]) -> [f64; MAX_POINTS]
     ensures { (i : ℕ) → i < max_points → at result i ≡ sqrt (at q i) }
 {
-    let mut out = [0.0; MAX_POINTS];
-    for i in 0..MAX_POINTS {
-        out[i] = square_root::checked(q[i], g[i]);
-    }
-    out
+    array::from_fn(|i| square_root::checked(q[i], g[i]))
 }
 
 // The two ends of an edge over the distance from its line: seven times the end, seven times the start. The extent is its length.
 fn slopes(start: [f64; MAX_POINTS], extent: f64, transverse: [f64; MAX_POINTS]) -> [f64; 14]
     ensures { (i : ℕ) → i < max_points → (at result i ≡ (at start i ⊕ extent) ⊘ at transverse i) × (at result (i + 7) ≡ at start i ⊘ at transverse i) }
 {
+    // A loop: each turn writes two places, and array::from_fn would have to choose between them at every one.
     let mut out = [0.0; 14];
     for i in 0..MAX_POINTS {
         out[i] = (start[i] + extent) / transverse[i];
@@ -94,6 +66,7 @@ fn slopes(start: [f64; MAX_POINTS], extent: f64, transverse: [f64; MAX_POINTS]) 
 }
 
 // The integral of 1/distance over an edge, where upper and lower are the arc sines of its two ends.
+#[tactic(auto, unfolding(potential::specs::Potential::line_integral))]
 fn integral(start: f64, end: f64, transverse: f64, upper: f64, lower: f64) -> f64
     requires { (upper ≡ asinh (end ⊘ transverse)) × (lower ≡ asinh (start ⊘ transverse)) }
     ensures { result ≡ Potential.line_integral start end transverse }
@@ -114,14 +87,11 @@ fn integrals(
         → (at s i ≡ asinh ((at start i ⊕ extent) ⊘ at transverse i)) × (at s (i + 7) ≡ asinh (at start i ⊘ at transverse i)) }
     ensures { (i : ℕ) → i < max_points → at result i ≡ Potential.line_integral (at start i) (at start i ⊕ extent) (at transverse i) }
 {
-    let mut out = [0.0; MAX_POINTS];
-    for i in 0..MAX_POINTS {
-        out[i] = integral(start[i], start[i] + extent, transverse[i], s[i], s[i + 7]);
-    }
-    out
+    array::from_fn(|i| integral(start[i], start[i] + extent, transverse[i], s[i], s[i + 7]))
 }
 
 // The edge's part added to value. Where h log(h) has the limit 0, nothing is added.
+#[tactic(auto, unfolding(crate::specs::Seven::add_part))]
 fn add_part(value: f64, h: f64, d: f64, integral: f64) -> f64
     ensures { result ≡ Spec.add_part value h d integral }
 {
@@ -139,29 +109,24 @@ fn add_parts(
 ) -> [f64; MAX_POINTS]
     ensures { (i : ℕ) → i < max_points → at result i ≡ Spec.add_part (at value i) (at h i) (at d i) (at integral i) }
 {
-    let mut out = [0.0; MAX_POINTS];
-    for i in 0..MAX_POINTS {
-        out[i] = add_part(value[i], h[i], d[i], integral[i]);
-    }
-    out
+    array::from_fn(|i| add_part(value[i], h[i], d[i], integral[i]))
 }
 
 // One edge's part at each point, added to value.
+#[tactic(auto, unfolding(potential::specs::Potential::add_edge, potential::specs::Potential::edge_integral, potential::specs::Potential::edge_integral_from, crate::specs::Seven::add_part))]
 fn add_edge(
-    node: [f64; 3],
-    outward: [f64; 3],
-    tangent: [f64; 3],
-    extent: f64,
-    x: [f64; MAX_POINTS],
-    y: [f64; MAX_POINTS],
-    z: [f64; MAX_POINTS],
+    p: &UniformTriangle,
+    edge: usize,
+    points: &Points,
     d: [f64; MAX_POINTS],
     value: [f64; MAX_POINTS],
 ) -> [f64; MAX_POINTS]
-    ensures { (i : ℕ) → i < max_points → at result i ≡ Spec.add_edge_of node outward tangent extent (Spec.point x y z i) (at d i) (at value i) }
+    requires { edge < 3 }
+    ensures { (i : ℕ) → i < max_points → at result i ≡ Potential.add_edge p.now edge (point points.now i) (at d i) (at value i) }
 {
-    let h = places(node, outward, x, y, z);
-    let start = places(node, tangent, x, y, z);
+    let h = places(p.nodes[edge], p.edge_outward[edge], points);
+    let start = places(p.nodes[edge], p.edge_tangent[edge], points);
+    let extent = p.edge_length[edge];
     let q = squares(h, d);
     let transverse = roots(q, estimates(q));
     let s = elementary_lanes::asinhs(slopes(start, extent, transverse));
@@ -170,117 +135,79 @@ fn add_edge(
 
 // ---- the solid angle's part
 
-// One coordinate of each point less that of each corner: seven of the first, seven of the second, seven of the third.
-fn differences(nodes: [f64; 9], axis: usize, x: [f64; MAX_POINTS]) -> [f64; 21]
-    requires { axis < 3 }
-    ensures { (i : ℕ) → i < 21 → at result i ≡ Spec.difference nodes axis x i }
+fn differences(x: [f64; MAX_POINTS], c: f64) -> [f64; MAX_POINTS]
+    ensures { (i : ℕ) → i < max_points → at result i ≡ at x i ⊖ c }
 {
-    let mut out = [0.0; 21];
-    for i in 0..21usize {
-        out[i] = x[i % 7] - nodes[i / 7 * 3 + axis];
-    }
-    out
+    array::from_fn(|i| x[i] - c)
 }
 
-// The squared lengths of the vectors (x, y, z), or NaN.
-fn square_lanes(x: [f64; 21], y: [f64; 21], z: [f64; 21]) -> [f64; 21]
-    ensures by_index { (i : ℕ) → i < 21 → at result i ≡ Spec.square_at x y z i }
-    ensures squares_of { Spec.SquaresOf x y z result }
+// The vector from corner to each point.
+fn vectors_from(corner: [f64; 3], points: &Points) -> Points
+    ensures { (i : ℕ) → i < max_points → point result i ≡ sub3 (point points.now i) corner }
 {
-    let mut out = [0.0; 21];
-    for i in 0..21usize {
-        out[i] = length_lanes::square_lane(x[i], y[i], z[i]);
+    Points {
+        x: differences(points.x, corner[0]),
+        y: differences(points.y, corner[1]),
+        z: differences(points.z, corner[2]),
     }
-    out
 }
 
-fn distance_estimates(q: [f64; 21]) -> [f64; 21]
-    ensures { (i : ℕ) → i < 21 → at result i ≡ root_estimate (at q i) }
+// The squared lengths of the vectors, or NaN.
+fn square_lanes(v: &Points) -> [f64; MAX_POINTS]
+    ensures { (i : ℕ) → i < max_points → Spec.SquareOf (point v.now i) (at result i) }
 {
-    let mut out = [0.0; 21];
-    for i in 0..21usize {
-        out[i] = square_root::root_estimate(q[i]);
-    }
-    out
+    array::from_fn(|i| length_lanes::square_lane(v.x[i], v.y[i], v.z[i]))
 }
 
-// The lengths of the vectors (x, y, z) by their squares s, whatever the estimates g of the roots are.
-fn lengths(x: [f64; 21], y: [f64; 21], z: [f64; 21], s: [f64; 21], g: [f64; 21]) -> [f64; 21]
-    requires { Spec.SquaresOf x y z s }
-    ensures { (i : ℕ) → i < 21 → at result i ≡ norm3 (Spec.point x y z i) }
+// The lengths of the vectors.
+fn lengths(v: &Points) -> [f64; MAX_POINTS]
+    ensures { (i : ℕ) → i < max_points → at result i ≡ norm3 (point v.now i) }
 {
-    let mut out = [0.0; 21];
-    for i in 0..21usize {
-        out[i] = length_lanes::length_of(x[i], y[i], z[i], s[i], g[i]);
-    }
-    out
-}
-
-// The distance of each point from each corner.
-fn distances(
-    nodes: [f64; 9],
-    x: [f64; MAX_POINTS],
-    y: [f64; MAX_POINTS],
-    z: [f64; MAX_POINTS],
-) -> [f64; 21]
-    ensures { (i : ℕ) → i < 21 → at result i ≡ Spec.distance (Potential.vector nodes (i / 7)) (Spec.point x y z (i % 7)) }
-{
-    let dx = differences(nodes, 0, x);
-    let dy = differences(nodes, 1, y);
-    let dz = differences(nodes, 2, z);
-    let s = square_lanes(dx, dy, dz);
-    lengths(dx, dy, dz, s, distance_estimates(s))
+    let s = square_lanes(v);
+    let g = estimates(s);
+    array::from_fn(|i| length_lanes::length_of(v.x[i], v.y[i], v.z[i], s[i], g[i]))
 }
 
 // The triple product of the vectors from the three corners to each point.
-fn triple_products(
-    a: [f64; 3],
-    b: [f64; 3],
-    c: [f64; 3],
-    x: [f64; MAX_POINTS],
-    y: [f64; MAX_POINTS],
-    z: [f64; MAX_POINTS],
-) -> [f64; MAX_POINTS]
-    ensures { (i : ℕ) → i < max_points → at result i ≡ Spec.triple a b c (Spec.point x y z i) }
+fn triple_products(a: &Points, b: &Points, c: &Points) -> [f64; MAX_POINTS]
+    ensures { (i : ℕ) → i < max_points → at result i ≡ dot3 (point a.now i) (cross3 (point b.now i) (point c.now i)) }
 {
-    let mut out = [0.0; MAX_POINTS];
-    for i in 0..MAX_POINTS {
-        let obs = [x[i], y[i], z[i]];
-        out[i] = math::dot3(
-            math::sub3(obs, a),
-            math::cross3(math::sub3(obs, b), math::sub3(obs, c)),
-        );
-    }
-    out
+    array::from_fn(|i| math::dot3(a.point(i), math::cross3(b.point(i), c.point(i))))
 }
 
-// The denominator of the tangent of half the solid angle, of the vectors to a point and their norms.
-fn denominator(r0: [f64; 3], r1: [f64; 3], r2: [f64; 3], n0: f64, n1: f64, n2: f64) -> f64
-    ensures { result ≡ Spec.denominator r0 r1 r2 n0 n1 n2 }
+fn inner_products(a: &Points, b: &Points) -> [f64; MAX_POINTS]
+    ensures { (i : ℕ) → i < max_points → at result i ≡ dot3 (point a.now i) (point b.now i) }
 {
-    n0 * n1 * n2 + math::dot3(r0, r1) * n2 + math::dot3(r1, r2) * n0 + math::dot3(r2, r0) * n1
+    array::from_fn(|i| math::dot3(a.point(i), b.point(i)))
 }
 
-fn denominators(
-    a: [f64; 3],
-    b: [f64; 3],
-    c: [f64; 3],
-    x: [f64; MAX_POINTS],
-    y: [f64; MAX_POINTS],
-    z: [f64; MAX_POINTS],
-    n: [f64; 21],
+// The denominator of the tangent of half the solid angle, of the lengths of three vectors and their inner products.
+fn denominators_of(
+    na: [f64; MAX_POINTS],
+    nb: [f64; MAX_POINTS],
+    nc: [f64; MAX_POINTS],
+    ab: [f64; MAX_POINTS],
+    bc: [f64; MAX_POINTS],
+    ca: [f64; MAX_POINTS],
 ) -> [f64; MAX_POINTS]
-    ensures { (i : ℕ) → i < max_points → at result i ≡ Spec.denominator_at a b c (Spec.point x y z i) (at n i) (at n (i + 7)) (at n (i + 14)) }
+    ensures { (i : ℕ) → i < max_points
+        → at result i ≡ Spec.denominator (at na i) (at nb i) (at nc i) (at ab i) (at bc i) (at ca i) }
 {
-    let mut out = [0.0; MAX_POINTS];
-    for i in 0..MAX_POINTS {
-        let obs = [x[i], y[i], z[i]];
-        let r0 = math::sub3(obs, a);
-        let r1 = math::sub3(obs, b);
-        let r2 = math::sub3(obs, c);
-        out[i] = denominator(r0, r1, r2, n[i], n[i + 7], n[i + 14]);
-    }
-    out
+    array::from_fn(|i| na[i] * nb[i] * nc[i] + ab[i] * nc[i] + bc[i] * na[i] + ca[i] * nb[i])
+}
+
+// Of the vectors from the three corners to each point.
+fn denominators(a: &Points, b: &Points, c: &Points) -> [f64; MAX_POINTS]
+    ensures { (i : ℕ) → i < max_points → at result i ≡ Spec.denominator_at (point a.now i) (point b.now i) (point c.now i) }
+{
+    denominators_of(
+        lengths(a),
+        lengths(b),
+        lengths(c),
+        inner_products(a, b),
+        inner_products(b, c),
+        inner_products(c, a),
+    )
 }
 
 // value - d * (2 * angle), where angle is half the solid angle.
@@ -291,112 +218,36 @@ fn less_doubled(
 ) -> [f64; MAX_POINTS]
     ensures { (i : ℕ) → i < max_points → at result i ≡ at value i ⊖ at d i ⊗ (two ⊗ at angle i) }
 {
-    let mut out = [0.0; MAX_POINTS];
-    for i in 0..MAX_POINTS {
-        out[i] = value[i] - d[i] * (2.0 * angle[i]);
-    }
-    out
+    array::from_fn(|i| value[i] - d[i] * (2.0 * angle[i]))
 }
 
-// Whether a point is off the plane, or its distance NaN.
-fn off_plane(d: [f64; MAX_POINTS]) -> bool
-    ensures { result ≡ Spec.off_plane 7 d }
-{
-    let mut found = false;
-    for i in 0..MAX_POINTS {
-        found = found | (d[i] != 0.0);
-    }
-    found
-}
-
-// The solid angle's part taken from value, point by point: in the plane it is mostly left out.
-fn less_solid_angle_each(
-    p: UniformTriangle,
-    x: [f64; MAX_POINTS],
-    y: [f64; MAX_POINTS],
-    z: [f64; MAX_POINTS],
-    d: [f64; MAX_POINTS],
-    value: [f64; MAX_POINTS],
-) -> [f64; MAX_POINTS]
-    ensures { (i : ℕ) → i < max_points → at result i ≡ Potential.less_solid_angle p (Spec.point x y z i) (at d i) (at value i) }
-{
-    let mut out = [0.0; MAX_POINTS];
-    for i in 0..MAX_POINTS {
-        out[i] = p.less_solid_angle([x[i], y[i], z[i]], d[i], value[i]);
-    }
-    out
-}
-
-// The solid angle's part at each point, taken from value.
+// The solid angle's part at each point, taken from value. Where all points are in the plane it is mostly left out, point by point.
 fn less_solid_angles(
-    p: UniformTriangle,
-    x: [f64; MAX_POINTS],
-    y: [f64; MAX_POINTS],
-    z: [f64; MAX_POINTS],
+    p: &UniformTriangle,
+    points: &Points,
     d: [f64; MAX_POINTS],
     value: [f64; MAX_POINTS],
 ) -> [f64; MAX_POINTS]
-    ensures { (i : ℕ) → i < max_points → at result i ≡ Potential.less_solid_angle p (Spec.point x y z i) (at d i) (at value i) }
+    ensures { (i : ℕ) → i < max_points → at result i ≡ Potential.less_solid_angle p.now (point points.now i) (at d i) (at value i) }
 {
-    if off_plane(d) {
-        let nodes = p.nodes;
-        let a = vector(nodes, 0);
-        let b = vector(nodes, 1);
-        let c = vector(nodes, 2);
-        let top = triple_products(a, b, c, x, y, z);
-        let bottom = denominators(a, b, c, x, y, z, distances(nodes, x, y, z));
+    if d.iter().any(|distance| *distance != 0.0) {
+        let a = vectors_from(p.nodes[0], points);
+        let b = vectors_from(p.nodes[1], points);
+        let c = vectors_from(p.nodes[2], points);
+        let top = triple_products(&a, &b, &c);
+        let bottom = denominators(&a, &b, &c);
         return less_doubled(value, d, elementary_lanes::atan2s(top, bottom));
     }
-    less_solid_angle_each(p, x, y, z, d, value)
+    array::from_fn(|i| p.less_solid_angle(points.point(i), d[i], value[i]))
 }
 
 // The potential at each of seven points.
-pub fn scalar_potentials(
-    p: UniformTriangle,
-    x: [f64; MAX_POINTS],
-    y: [f64; MAX_POINTS],
-    z: [f64; MAX_POINTS],
-) -> [f64; MAX_POINTS]
-    ensures { (i : ℕ) → i < max_points → at result i ≡ Potential.scalar_potential p (Spec.point x y z i) }
+pub fn scalar_potentials(p: &UniformTriangle, points: &Points) -> [f64; MAX_POINTS]
+    ensures { (i : ℕ) → i < max_points → at result i ≡ Potential.scalar_potential p.now (point points.now i) }
 {
-    let nodes = p.nodes;
-    let outward = p.edge_outward;
-    let tangent = p.edge_tangent;
-    let edge_length = p.edge_length;
-    let normal = p.normal;
-    let d = distances_from_plane(vector(nodes, 0), normal, x, y, z);
-    let first = add_edge(
-        vector(nodes, 0),
-        vector(outward, 0),
-        vector(tangent, 0),
-        edge_length[0],
-        x,
-        y,
-        z,
-        d,
-        [0.0; MAX_POINTS],
-    );
-    let second = add_edge(
-        vector(nodes, 1),
-        vector(outward, 1),
-        vector(tangent, 1),
-        edge_length[1],
-        x,
-        y,
-        z,
-        d,
-        first,
-    );
-    let value = add_edge(
-        vector(nodes, 2),
-        vector(outward, 2),
-        vector(tangent, 2),
-        edge_length[2],
-        x,
-        y,
-        z,
-        d,
-        second,
-    );
-    less_solid_angles(p, x, y, z, d, value)
+    let d = distances_from_plane(p.nodes[0], p.normal, points);
+    let first = add_edge(p, 0, points, d, [0.0; MAX_POINTS]);
+    let second = add_edge(p, 1, points, d, first);
+    let value = add_edge(p, 2, points, d, second);
+    less_solid_angles(p, points, d, value)
 }

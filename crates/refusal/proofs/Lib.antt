@@ -1,2 +1,3 @@
 pub mod Checks
+pub mod Outcome
 pub mod Tests

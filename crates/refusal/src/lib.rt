@@ -1,48 +1,64 @@
-// How a call says no: document 01's numbers, and an answer that has a value beside its number.
-// The numbers of document 01's table, by its words; specs/Numbers.antt has the same.
+// How a call says no: document 01's refusals by its words, and their numbers, which the C interface hands out.
 #![tactic(auto)]
 
-pub const NODE_COLUMNS: u32 = 1;
+ghost use Rattle.std.specs.Prelude.{◌≡◌};
+ghost use Rattle.refusal.specs.Outcome as Spec;
 
-pub const PANEL_COLUMNS: u32 = 2;
+// Document 01's table; specs/Numbers.antt has the same.
+#[derive(Clone, Copy, PartialEq, Eq)]
+pub enum Refusal {
+    NodeColumns = 1,
+    PanelColumns = 2,
+    MissingNode = 3,
+    ZeroArea = 4,
+    NodalValues = 5,
+    Output = 6,
+    Matrix = 7,
+    Coefficients = 8,
+    Map = 9,
+    Flux = 10,
+    TooLarge = 11,
+    NoSuchChoice = 12,
+    NoSuchNode = 13,
+    Mark = 14,
+    FileLength = 15,
+    Display = 16,
+    UnknownName = 17,
+    NoPlace = 18,
+    NotFinite = 19,
+}
 
-pub const MISSING_NODE: u32 = 3;
+impl Refusal {
+    pub fn number(self) -> u32
+        ensures { result ≡ Spec.number self }
+    {
+        self as u32
+    }
+}
 
-pub const ZERO_AREA: u32 = 4;
+// The number that the C interface hands out: 0 for a call that is done.
+pub fn number_of<T>(outcome: &Result<T, Refusal>) -> u32
+    ensures { result ≡ Spec.number_of outcome.now }
+{
+    match outcome {
+        Ok(_) => 0,
+        Err(refusal) => refusal.number(),
+    }
+}
 
-pub const NODAL_VALUES: u32 = 5;
-
-pub const OUTPUT_LENGTH: u32 = 6;
-
-pub const MATRIX_LENGTH: u32 = 7;
-
-pub const COEFFICIENTS: u32 = 8;
-
-pub const MAP_LENGTH: u32 = 9;
-
-pub const FLUX_LENGTH: u32 = 10;
-
-pub const TOO_LARGE: u32 = 11;
-
-pub const NO_SUCH_CHOICE: u32 = 12;
-
-pub const NO_SUCH_NODE: u32 = 13;
-
-pub const FILE_MARK: u32 = 14;
-
-pub const FILE_LENGTH: u32 = 15;
-
-pub const DISPLAY_RANGE: u32 = 16;
-
-pub const UNKNOWN_NAME: u32 = 17;
-
-pub const NO_PLACE: u32 = 18;
-
-pub const NOT_FINITE: u32 = 19;
-
-// A number of document 01's table, and a value, which is zero on a refusal.
-#[derive(Clone, Copy)]
-pub struct Answer {
-    pub refusal: u32,
-    pub value: f64,
+// A call's value, zero on a refusal, to a lent place of the C interface; the answer is the number.
+pub fn hand_out<T: Copy>(outcome: Result<T, Refusal>, zero: T, place: &mut T) -> u32
+    ensures number { result ≡ Spec.number_of outcome }
+    ensures value { place.new ≡ Spec.value_or zero outcome }
+{
+    match outcome {
+        Ok(value) => {
+            *place = value;
+            0
+        }
+        Err(refusal) => {
+            *place = zero;
+            refusal.number()
+        }
+    }
 }

@@ -155,12 +155,12 @@ module _ (f : List Float) (w : List ℕ) where
   abbrev pub panel_record : Bool
   panel_record =
       let p = Potential.uniform_triangle (triangle_at f 0) in
-      same_nine p.nodes w 9
-      && (same_vector p.normal w 18
-      && (same_nine p.edge_tangent w 21
-      && (same_nine p.edge_outward w 30
-      && (same_vector p.edge_length w 39
-      && same_number p.max_edge w 42))))
+      same_triangle p.nodes w 9
+      && same_vector p.normal w 18
+      && same_triangle p.edge_tangent w 21
+      && same_triangle p.edge_outward w 30
+      && same_vector p.edge_length w 39
+      && same_number p.max_edge w 42
 
 -- ---- by the kind's number
 

@@ -65,38 +65,21 @@ pub fn square_add(f: &[f64; 2048], w: &[u64; 2048]) -> bool
 }
 
 // By the kind's number.
+#[tactic(auto, unfolding(crate::specs::Kinds::numbers_agree, crate::specs::Kinds::chosen))]
 pub fn agree(kind: u64, f: &[f64; 2048], w: &[u64; 2048]) -> bool
     ensures { result ≡ Spec.numbers_agree kind f.now w.now }
 {
-    if kind == 1 {
-        return fma(f, w);
+    match kind {
+        1 => fma(f, w),
+        2 => sqrt(f, w),
+        3 => ln(f, w),
+        4 => asinh(f, w),
+        5 => atan2(f, w),
+        49 => min(f, w),
+        50 => max(f, w),
+        51 => clamp(f, w),
+        52 => abs(f, w),
+        53 => square_add(f, w),
+        _ => false,
     }
-    if kind == 2 {
-        return sqrt(f, w);
-    }
-    if kind == 3 {
-        return ln(f, w);
-    }
-    if kind == 4 {
-        return asinh(f, w);
-    }
-    if kind == 5 {
-        return atan2(f, w);
-    }
-    if kind == 49 {
-        return min(f, w);
-    }
-    if kind == 50 {
-        return max(f, w);
-    }
-    if kind == 51 {
-        return clamp(f, w);
-    }
-    if kind == 52 {
-        return abs(f, w);
-    }
-    if kind == 53 {
-        return square_add(f, w);
-    }
-    false
 }

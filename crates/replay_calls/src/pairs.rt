@@ -94,32 +94,19 @@ pub fn block_energy(f: &[f64; 2048], w: &[u64; 2048]) -> bool
 }
 
 // By the kind's number.
+#[tactic(auto, unfolding(crate::specs::Kinds::pairs_agree, crate::specs::Kinds::chosen))]
 pub fn agree(kind: u64, f: &[f64; 2048], w: &[u64; 2048]) -> bool
     ensures { result ≡ Spec.pairs_agree kind f.now w.now }
 {
-    if kind == 41 {
-        return identical(f, w);
+    match kind {
+        41 => identical(f, w),
+        54 => box_distance(f, w),
+        55 => panel_distance(f, w),
+        56 => longest_edge(f, w),
+        57 => is_far(f, w),
+        37 => point_distance(f, w),
+        38 => segment_distance(f, w),
+        40 => block_energy(f, w),
+        _ => false,
     }
-    if kind == 54 {
-        return box_distance(f, w);
-    }
-    if kind == 55 {
-        return panel_distance(f, w);
-    }
-    if kind == 56 {
-        return longest_edge(f, w);
-    }
-    if kind == 57 {
-        return is_far(f, w);
-    }
-    if kind == 37 {
-        return point_distance(f, w);
-    }
-    if kind == 38 {
-        return segment_distance(f, w);
-    }
-    if kind == 40 {
-        return block_energy(f, w);
-    }
-    false
 }

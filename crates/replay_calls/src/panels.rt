@@ -91,38 +91,21 @@ pub fn normal(f: &[f64; 2048], w: &[u64; 2048]) -> bool
 }
 
 // By the kind's number.
+#[tactic(auto, unfolding(crate::specs::Kinds::panels_agree, crate::specs::Kinds::chosen))]
 pub fn agree(kind: u64, f: &[f64; 2048], w: &[u64; 2048]) -> bool
     ensures { result ≡ Spec.panels_agree kind f.now w.now }
 {
-    if kind == 9 {
-        return closest_point(f, w);
+    match kind {
+        9 => closest_point(f, w),
+        10 => area(f, w),
+        11 => quality(f, w),
+        13 => potential(f, w),
+        14 => gradient(f, w),
+        15 => contact(f, w),
+        23 => basis_densities(f, w),
+        24 => panel_density(f, w),
+        42 => map_point(f, w),
+        43 => normal(f, w),
+        _ => false,
     }
-    if kind == 10 {
-        return area(f, w);
-    }
-    if kind == 11 {
-        return quality(f, w);
-    }
-    if kind == 13 {
-        return potential(f, w);
-    }
-    if kind == 14 {
-        return gradient(f, w);
-    }
-    if kind == 15 {
-        return contact(f, w);
-    }
-    if kind == 23 {
-        return basis_densities(f, w);
-    }
-    if kind == 24 {
-        return panel_density(f, w);
-    }
-    if kind == 42 {
-        return map_point(f, w);
-    }
-    if kind == 43 {
-        return normal(f, w);
-    }
-    false
 }

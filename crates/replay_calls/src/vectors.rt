@@ -53,32 +53,19 @@ pub fn scale3(f: &[f64; 2048], w: &[u64; 2048]) -> bool
 }
 
 // By the kind's number.
+#[tactic(auto, unfolding(crate::specs::Kinds::vectors_agree, crate::specs::Kinds::chosen))]
 pub fn agree(kind: u64, f: &[f64; 2048], w: &[u64; 2048]) -> bool
     ensures { result ≡ Spec.vectors_agree kind f.now w.now }
 {
-    if kind == 6 {
-        return dot3(f, w);
+    match kind {
+        6 => dot3(f, w),
+        7 => cross3(f, w),
+        8 => norm3(f, w),
+        44 => normalize3(f, w),
+        45 => add_scaled3(f, w),
+        46 => sub3(f, w),
+        47 => add3(f, w),
+        48 => scale3(f, w),
+        _ => false,
     }
-    if kind == 7 {
-        return cross3(f, w);
-    }
-    if kind == 8 {
-        return norm3(f, w);
-    }
-    if kind == 44 {
-        return normalize3(f, w);
-    }
-    if kind == 45 {
-        return add_scaled3(f, w);
-    }
-    if kind == 46 {
-        return sub3(f, w);
-    }
-    if kind == 47 {
-        return add3(f, w);
-    }
-    if kind == 48 {
-        return scale3(f, w);
-    }
-    false
 }

@@ -1,3 +1,3 @@
-pub mod Turns
-pub mod Unpacked
-pub mod Totals
+mod Made
+mod Totals
+mod Turns

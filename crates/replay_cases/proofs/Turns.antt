@@ -1,30 +1,19 @@
--- A program's loop over its cases: the turns that are left count down from a million, and a turn counts nothing or one case's verdict.
--- The laws stand here so that a program, which loads all that it replays, proves little.
-use Rattle.std.proofs.Common.{◌≡◌, ℕ, ◌-◌, ◌<◌, ◌≤◌, Bool, true, false, List, refl, true≢false, arith}
-use mathlib.Core.Bool.{false≢true}
-use Rattle.replay_cases.specs.Tally.{counted, judged, Turn}
+-- The counts are those of some cases: of none at the start, and of one more or the same after a turn.
+use Rattle.std.proofs.Common.{◌≡◌, ℕ, Bool, true, false, List, [], ◌∷◌, refl, ap, ◌∙◌}
+use Rattle.replay_cases.specs.Tally.{none, counted, judged, Turn, cases_of, differ_of, Reached}
 
--- so many turns at most
-abbrev pub Left : ℕ → Type 0
-Left n = n ≤ 1000000
+pub at_start : (agrees : ℕ → List ℕ → Bool) {cases differ : List ℕ} → (cases ≡ none) × (differ ≡ none) → Reached agrees cases differ
+unfolding cases_of differ_of
+at_start agrees e = ([], e.0, e.1)
 
-pub all_left : Left 1000000
-all_left = omega arith
+turned : (agrees : ℕ → List ℕ → Bool) {cases differ cases' differ' : List ℕ} (r : Bool) → Turn agrees cases differ r cases' differ' → Reached agrees cases differ → Reached agrees cases' differ'
+unfolding cases_of differ_of
+turned agrees false t h = (h.0, (t.none refl).0 ∙ h.1, (t.none refl).1 ∙ h.2)
+turned agrees true t h =
+    let c = t.one refl in
+    let k = c.0 in
+    let b = c.1 in
+    ((k, b) ∷ h.0, c.3 ∙ ap (λ l. counted l k) h.1, c.4 ∙ ap (λ l. judged (agrees k b) l k) h.2)
 
-pub one_less : (n : ℕ) → 0 < n → n - 1 < n
-one_less n h = omega arith
-
-pub still_left : (n : ℕ) → Left n → Left (n - 1)
-still_left n h = omega arith
-
--- no case is left
-pub no_turn : (agrees : ℕ → List ℕ → Bool) (cases differ : List ℕ) → Turn agrees cases differ false cases differ
-no_turn agrees cases differ = record { none = λ e. (refl, refl); one = λ e. absurd (false≢true e) }
-
--- a case of kind k with bytes b is judged
-pub a_turn : (agrees : ℕ → List ℕ → Bool) (k : ℕ) (b : List ℕ) {cases differ cases' differ' : List ℕ}
-    → k < 128
-    → cases' ≡ counted cases k
-    → differ' ≡ judged (agrees k b) differ k
-    → Turn agrees cases differ true cases' differ'
-a_turn agrees k b l c d = record { none = λ e. absurd (true≢false e); one = λ e. (k, b, l, c, d) }
+pub after_turn : (agrees : ℕ → List ℕ → Bool) {cases differ cases' differ' : List ℕ} {r : Bool} → Turn agrees cases differ r cases' differ' → Reached agrees cases differ → Reached agrees cases' differ'
+after_turn agrees {cases} {differ} {cases'} {differ'} {r} t h = turned agrees r t h

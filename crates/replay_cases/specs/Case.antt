@@ -1,15 +1,16 @@
 -- The replay: a case's kind from its head, and its words, numbers and places from its bytes. Definitions only.
-use Rattle.std.specs.Prelude.{ℕ, ◌*◌, cond, List, nat_lt, slice_index, Float}
+use Rattle.std.specs.Prelude.{ℕ, ◌*◌, cond, Option, None, List, nat_lt, slice_index, Float}
+use Rattle.std.specs.Option.{option_map}
 use Rattle.binary64.specs.Binary64.{bits}
 use Rattle.lists.specs.Filling.{tabulate}
 use Rattle.panel_file.specs.LittleEndian.{little_endian}
 use Rattle.replay_words.specs.Words.{size_of}
 
--- a case's kind by its head; 128 where it has a kind or a size that no buffer holds
-unfoldable pub kind_of : List ℕ → ℕ
+-- a case's kind by its head; none where it has a kind or a size that no buffer holds
+unfoldable pub kind_of : List ℕ → Option ℕ
 kind_of h =
     let kind = little_endian 4 h 0 in
-    cond (nat_lt 127 kind) 128 (cond (nat_lt 2048 (size_of (little_endian 4 h 4) (little_endian 8 h 8))) 128 kind)
+    cond (nat_lt 127 kind) None (option_map (λ _. kind) (size_of (little_endian 4 h 4) (little_endian 8 h 8)))
 
 abbrev pub word_at : List ℕ → ℕ → ℕ
 word_at b k = little_endian 8 b (k * 8)

@@ -1,5 +1,5 @@
 -- The replay: counts of cases, as words of 64 bits. Definitions only.
-use Rattle.std.specs.Prelude.{◌≡◌, ℕ, zero, suc, ◌+◌, ◌%◌, ◌^◌, ◌<◌, Bool, true, false, cond, List, replicate, slice_index, slice_set}
+use Rattle.std.specs.Prelude.{◌≡◌, ℕ, zero, suc, ◌+◌, ◌%◌, ◌^◌, ◌<◌, Bool, true, false, cond, List, [], ◌∷◌, replicate, slice_index, slice_set}
 
 -- no case of any kind
 abbrev pub none : List ℕ
@@ -23,3 +23,20 @@ pub record Turn (agrees : ℕ → List ℕ → Bool) (cases differ : List ℕ) (
 unfoldable pub total : List ℕ → ℕ → ℕ
 total l zero = 0
 total l (suc n) = (total l n + slice_index l n) % 2 ^ 64
+
+-- the counts after some cases, each by its kind and its bytes, the last first
+unfoldable pub cases_of : List (ℕ × List ℕ) → List ℕ
+cases_of [] = none
+cases_of (c ∷ cs) = counted (cases_of cs) c.0
+
+unfoldable pub differ_of : (ℕ → List ℕ → Bool) → List (ℕ × List ℕ) → List ℕ
+differ_of agrees [] = none
+differ_of agrees (c ∷ cs) = judged (agrees c.0 c.1) (differ_of agrees cs) c.0
+
+-- the counts are those of some cases
+abbrev pub Reached : (ℕ → List ℕ → Bool) → List ℕ → List ℕ → Type 0
+Reached agrees cases differ = (cs : List (ℕ × List ℕ)) × (cases ≡ cases_of cs) × (differ ≡ differ_of agrees cs)
+
+-- so many of some cases differ
+abbrev pub Replayed : (ℕ → List ℕ → Bool) → ℕ → Type 0
+Replayed agrees n = (cs : List (ℕ × List ℕ)) × (n ≡ total (differ_of agrees cs) 128)

@@ -1,5 +1,5 @@
 // A case's head, and its words, numbers and places from its bytes.
-ghost use Rattle.std.specs.Prelude.{◌≡◌, ◌<◌, ◌≤◌, length};
+ghost use Rattle.std.specs.Prelude.{◌≡◌, ◌<◌, ◌≤◌, length, IfSome};
 ghost use Rattle.panel_file.specs.LittleEndian.{little_endian};
 ghost use Rattle.replay_words.specs.Words.{size_of};
 ghost use Rattle.replay_cases.specs.Case as Spec;
@@ -12,21 +12,18 @@ pub fn kind(head: &[u8]) -> u64
     panel_file::little_endian(head, 0, 4)
 }
 
-// How many words of input and of results follow them, or 2,049 if these are more than 2,048.
-pub fn size(head: &[u8]) -> usize
+// How many words of input and of results follow them, if these are at most 2,048.
+pub fn size(head: &[u8]) -> Option<usize>
     requires { 16 ≤ length head.now }
     ensures value { result ≡ size_of (little_endian 4 head.now 4) (little_endian 8 head.now 8) }
-    ensures upper_bound { result ≤ 2049 }
+    ensures upper_bound { IfSome result (λ n. n ≤ 2048) }
 {
     let inputs = panel_file::little_endian(head, 4, 4);
     let results = panel_file::little_endian(head, 8, 8);
-    if inputs > 2048 {
-        return 2049;
+    match inputs.checked_add(results) {
+        Some(size) if size <= 2048 => Some(size as usize),
+        _ => None,
     }
-    if results > 2048 - inputs {
-        return 2049;
-    }
-    (inputs + results) as usize
 }
 
 fn word_at(b: &[u8; 16384], k: usize) -> u64
@@ -54,35 +51,17 @@ fn place_at(w: &[u64; 2048], k: usize) -> usize
 pub fn words(b: &[u8; 16384]) -> [u64; 2048]
     ensures { result ≡ Spec.words_of b.now }
 {
-    let mut w = [0u64; 2048];
-    let mut i = 0usize;
-    while i < 2048 {
-        w[i] = word_at(b, i);
-        i += 1;
-    }
-    w
+    std::array::from_fn(|k| word_at(b, k))
 }
 
 pub fn numbers(w: &[u64; 2048]) -> [f64; 2048]
     ensures { result ≡ Spec.numbers_of w.now }
 {
-    let mut f = [0.0f64; 2048];
-    let mut i = 0usize;
-    while i < 2048 {
-        f[i] = number_at(w, i);
-        i += 1;
-    }
-    f
+    std::array::from_fn(|k| number_at(w, k))
 }
 
 pub fn places(w: &[u64; 2048]) -> [usize; 2048]
     ensures { result ≡ Spec.places_of w.now }
 {
-    let mut u = [0usize; 2048];
-    let mut i = 0usize;
-    while i < 2048 {
-        u[i] = place_at(w, i);
-        i += 1;
-    }
-    u
+    std::array::from_fn(|k| place_at(w, k))
 }

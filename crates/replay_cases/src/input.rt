@@ -1,10 +1,11 @@
 // The cases of standard input. What is read no contract can say.
-ghost use Rattle.std.specs.Prelude.{◌≡◌, ◌≤◌, replicate};
+ghost use Rattle.std.specs.Prelude.{◌≡◌, ◌≤◌, ◌<◌, IfSome};
+ghost use Rattle.std.specs.Option.{option_map};
 ghost use Rattle.replay_cases.specs.Case as Spec;
 
 use crate::case;
 
-// A case by its kind and its bytes behind the head, with zeros behind these; of kind 128 where there is none.
+// A case by its kind and its bytes behind the head, with zeros behind these.
 #[derive(Drop)]
 pub struct Case {
     pub kind: usize,
@@ -22,43 +23,33 @@ fn bytes(size: usize) -> [u8; 16384]
     requires { size ≤ 2048 }
 {
     let mut b = [0u8; 16384];
-    io::read_full(0, &mut b[0..size * 8]);
+    io::read_full(0, &mut b[..size * 8]);
     b
 }
 
-fn none() -> Case
-    ensures { (result.kind ≡ 128) × (result.bytes ≡ replicate 16384 0) }
-{
-    Case {
-        kind: 128,
-        bytes: [0u8; 16384],
-    }
-}
-
 // The case whose head this is; none if it has a kind or a size that no buffer here holds.
-fn behind(head: &[u8; 16]) -> Case
-    ensures { result.kind ≡ Spec.kind_of head.now }
+fn behind(head: &[u8; 16]) -> Option<Case>
+    ensures value { option_map (λ c. c.kind) result ≡ Spec.kind_of head.now }
+    ensures upper_bound { IfSome result (λ c. c.kind < 128) }
 {
-    let all = &head[..];
-    let kind = case::kind(all);
-    let size = case::size(all);
+    let kind = case::kind(head);
     if kind > 127 {
-        return none();
+        return None;
     }
-    if size > 2048 {
-        return none();
-    }
-    Case {
+    let size = case::size(head)?;
+    Some(Case {
         kind: kind as usize,
         bytes: bytes(size),
-    }
+    })
 }
 
 // The next case, if it has a head.
-pub fn next() -> Case {
+pub fn next() -> Option<Case>
+    ensures { IfSome result (λ c. c.kind < 128) }
+{
     let mut head = [0u8; 16];
     if io::read_full(0, &mut head) < 16 {
-        return none();
+        return None;
     }
     behind(&head)
 }

@@ -4,6 +4,7 @@
 #![tactic(auto)]
 
 pub mod case;
-pub mod input;
-pub mod print;
-pub mod tally;
+mod input;
+mod print;
+pub mod run;
+mod tally;

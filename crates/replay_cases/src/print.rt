@@ -2,6 +2,8 @@
 ghost use Rattle.std.specs.Prelude.{◌≡◌, ◌+◌, ◌*◌, ◌<◌, ◌≤◌, length};
 ghost use Rattle.replay_cases.specs.Tally as Spec;
 
+use crate::tally::Tally;
+
 // Each name has 18 bytes, and the one of kind k stands at its place.
 fn line(names: &[u8], k: usize, cases: u64, differ: u64) -> u64
     requires { (k < 128) × (k * 18 + 18 ≤ length names.now) }
@@ -18,23 +20,20 @@ fn line(names: &[u8], k: usize, cases: u64, differ: u64) -> u64
 }
 
 // The lines of the kinds that have cases.
-fn lines(names: &[u8], cases: &[u64; 128], differ: &[u64; 128]) -> u64
+fn lines(names: &[u8], tally: &Tally) -> u64
     requires { 2304 ≤ length names.now }
-    ensures { result ≡ Spec.total differ.now 128 }
+    ensures { result ≡ Spec.total tally.now.differ 128 }
 {
-    let mut sum = 0;
-    let mut k = 0usize;
-    while k < 128 {
-        let d = line(names, k, cases[k], differ[k]);
-        sum = std::num::wrapping_add_u64(sum, d);
-        k += 1;
+    let mut sum = 0u64;
+    for k in 0..128 {
+        sum = sum.wrapping_add(line(names, k, tally.cases[k], tally.differ[k]));
     }
     sum
 }
 
 // The same under the kinds' names.
-fn named_lines(cases: &[u64; 128], differ: &[u64; 128]) -> u64
-    ensures { result ≡ Spec.total differ.now 128 }
+fn named_lines(tally: &Tally) -> u64
+    ensures { result ≡ Spec.total tally.now.differ 128 }
 {
     lines(
         b"-                 fma               sqrt              ln                asinh             atan2             dot3              cross3            \
@@ -53,16 +52,15 @@ fn named_lines(cases: &[u64; 128], differ: &[u64; 128]) -> u64
         -                 -                 -                 -                 -                 -                 -                 -                 \
         -                 -                 -                 -                 -                 -                 -                 -                 \
         -                 -                 -                 -                 -                 -                 -                 -                 ",
-        cases,
-        differ,
+        tally,
     )
 }
 
 // For each kind how many cases there are and how many differ; the last line is the sum.
-pub fn table(cases: &[u64; 128], differ: &[u64; 128]) -> u64
-    ensures { result ≡ Spec.total differ.now 128 }
+pub fn table(tally: &Tally) -> u64
+    ensures { result ≡ Spec.total tally.now.differ 128 }
 {
-    let sum = named_lines(cases, differ);
+    let sum = named_lines(tally);
     io::print_decimal(1, sum);
     io::write_all(1, b" differ\n");
     sum

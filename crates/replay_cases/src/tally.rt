@@ -2,11 +2,10 @@
 ghost use Rattle.std.specs.Prelude.{◌≡◌, ◌<◌};
 ghost use Rattle.replay_cases.specs.Tally as Spec;
 
-// No case of any kind.
-pub fn none() -> [u64; 128]
-    ensures { result ≡ Spec.none }
-{
-    [0u64; 128]
+#[derive(Drop)]
+pub struct Tally {
+    pub cases: [u64; 128],
+    pub differ: [u64; 128],
 }
 
 // One more of kind k.
@@ -14,19 +13,29 @@ fn add_one(counts: &mut [u64; 128], k: usize)
     requires { k < 128 }
     ensures { counts.new ≡ Spec.counted counts.old k }
 {
-    let n = counts[k];
-    counts[k] = std::num::wrapping_add_u64(n, 1);
+    counts[k] = counts[k].wrapping_add(1);
 }
 
-// A case of kind k, which agrees or differs.
-pub fn count(cases: &mut [u64; 128], differ: &mut [u64; 128], k: usize, agrees: bool)
-    requires { k < 128 }
-    ensures cases_value { cases.new ≡ Spec.counted cases.old k }
-    ensures differ_value { differ.new ≡ Spec.judged agrees differ.old k }
-{
-    add_one(cases, k);
-    if agrees {
-        return;
+impl Tally {
+    // No case of any kind.
+    pub fn none() -> Tally
+        ensures { (result.cases ≡ Spec.none) × (result.differ ≡ Spec.none) }
+    {
+        Tally {
+            cases: [0; 128],
+            differ: [0; 128],
+        }
     }
-    add_one(differ, k);
+
+    // A case of kind k, which agrees or differs.
+    pub fn count(&mut self, k: usize, agrees: bool)
+        requires { k < 128 }
+        ensures cases_value { self.new.cases ≡ Spec.counted self.old.cases k }
+        ensures differ_value { self.new.differ ≡ Spec.judged agrees self.old.differ k }
+    {
+        add_one(&mut self.cases, k);
+        if !agrees {
+            add_one(&mut self.differ, k);
+        }
+    }
 }

@@ -3,14 +3,18 @@ use Rattle.std.specs.Prelude.{cond, List, [], ◌∷◌, ℕ, zero, suc, ◌+◌
 use Rattle.replay_words.specs.Words.{cut_at, part}
 use Rattle.replay_words.specs.Bytes.{bytes_end}
 
--- a part has at most 80 elements; the bytes or the numbers whose length stands at place k
-unfoldable pub bytes_at : List ℕ → List ℕ → ℕ → List ℕ
-bytes_at b w k =
-    let from = 8 * k + 8 in
-    part b from (from + cut_at w k 80)
+-- a part has at most 80 elements: those whose length stands at place k, so many to a word
+unfoldable pub part_from : {A : Type 0} → ℕ → List A → List ℕ → ℕ → List A
+part_from per_word l w k =
+    let from = per_word * (k + 1) in
+    part l from (from + cut_at w k 80)
 
-unfoldable pub numbers_at : List Float → List ℕ → ℕ → List Float
-numbers_at f w k = part f (k + 1) (k + 1 + cut_at w k 80)
+-- of bytes and of numbers
+abbrev pub bytes_at : List ℕ → List ℕ → ℕ → List ℕ
+bytes_at b w k = part_from 8 b w k
+
+abbrev pub numbers_at : List Float → List ℕ → ℕ → List Float
+numbers_at f w k = part_from 1 f w k
 
 -- the place behind part i, whose length stands at place k: parts 0 and 1 are bytes, eight to a word, the others numbers
 unfoldable pub part_end : List ℕ → ℕ → ℕ → ℕ

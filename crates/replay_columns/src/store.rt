@@ -24,35 +24,27 @@ pub fn part_at(w: &[u64; 2048], q: usize, i: usize) -> usize
     ensures { (result ≡ Spec.part_at w.now q i) × (result ≤ q + 81 * i) }
 {
     let mut at = q;
-    let mut j = 0usize;
-    while j < i {
+    for j in 0..i {
         at = part_end(w, at, j);
-        j += 1;
     }
     at
 }
 
-// Part i, of bytes.
-pub fn bytes_part<'a>(b: &'a [u8; 16384], w: &[u64; 2048], q: usize, i: usize) -> &'a [u8]
-    requires { (q ≤ 875) × (i ≤ 1) }
-    ensures { (result.now ≡ Spec.bytes_at b.now w.now (Spec.part_at w.now q i)) × (length result.now ≤ 80) }
+// The elements of part i, so many to a word: bytes or numbers.
+pub fn part<'a, T, const PER_WORD: usize>(
+    all: &'a [T],
+    w: &[u64; 2048],
+    q: usize,
+    i: usize,
+) -> &'a [T]
+    requires place { (q ≤ 875) × (i ≤ 4) }
+    requires size { (1 ≤ PER_WORD) × (PER_WORD ≤ 8) × (length all.now ≡ PER_WORD * 2048) }
+    ensures { (result.now ≡ Spec.part_from PER_WORD all.now w.now (Spec.part_at w.now q i)) × (length result.now ≤ 80) }
 {
     let k = part_at(w, q, i);
     let n = cut_at(w, k, 80);
-    let all = &b[..];
-    let from = 8 * k + 8;
+    let from = PER_WORD * (k + 1);
     &all[from..from + n]
-}
-
-// Part i, of numbers.
-pub fn numbers_part<'a>(f: &'a [f64; 2048], w: &[u64; 2048], q: usize, i: usize) -> &'a [f64]
-    requires { (q ≤ 875) × (i ≤ 4) }
-    ensures { (result.now ≡ Spec.numbers_at f.now w.now (Spec.part_at w.now q i)) × (length result.now ≤ 80) }
-{
-    let k = part_at(w, q, i);
-    let n = cut_at(w, k, 80);
-    let all = &f[..];
-    &all[k + 1..k + 1 + n]
 }
 
 // The name in the word at place k.

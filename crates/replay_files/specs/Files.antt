@@ -1,28 +1,35 @@
 -- The replay: what a case with a file's bytes compares: the reader's number and columns, and the bytes that the program `density` prints. Definitions only.
 use Rattle.std.specs.Prelude.{Bool, false, cond, ◌&&◌, List, ℕ, ◌+◌, ◌*◌, ◌≤◌, eqb, length, Float}
+use Rattle.std.specs.Float.{nan}
+use Rattle.ieee754.specs.Ieee754.{canonical_bits}
 use Rattle.refusal.specs.Checks.{after}
 use Rattle.mesh.specs.Mesh.{mesh_of, max_nodes, max_panels}
 use Rattle.panel_file.specs.PanelFile.{decode, read_refusal, lengths_of}
 use Rattle.density_text.specs.Text.{text}
 use Rattle.replay_words.specs.Words.{length_at, cut_at, part, same_word}
 use Rattle.replay_words.specs.Bytes.{bytes_end, same_bytes}
-use Rattle.replay_words.specs.Buffers.{lent, held, lent_places, held_places}
+use Rattle.replay_words.specs.Buffers.{lent, lent_places, pattern, held_by}
 
 -- six columns of at most 64 elements, and a place of the case from which as many results stand in it
 abbrev pub Short : List Float → List Float → List Float → List ℕ → List ℕ → List ℕ → ℕ → Type 0
 Short x y z t0 t1 t2 k =
     (length x ≤ 64) × (length y ≤ 64) × (length z ≤ 64) × (length t0 ≤ 64) × (length t1 ≤ 64) × (length t2 ≤ 64) × (k ≤ 80)
 
--- three columns one behind the other, of numbers and of places
-unfoldable pub held_nodes : ℕ → List Float → List Float → List Float → List ℕ → ℕ → Bool
-held_nodes r x y z w k = held r x w k && (held r y w (k + length x) && held r z w (k + length x + length y))
+-- three columns one behind the other, of elements by their words
+unfoldable pub held_three : {A : Type 0} → (A → ℕ) → A → ℕ → ℕ → List A → List A → List A → List ℕ → ℕ → Bool
+held_three word beyond p r a b c w k =
+    held_by word beyond p r a w k && held_by word beyond p r b w (k + length a) && held_by word beyond p r c w (k + length a + length b)
 
-unfoldable pub held_panels : ℕ → List ℕ → List ℕ → List ℕ → List ℕ → ℕ → Bool
-held_panels r a b c w k = held_places r a w k && (held_places r b w (k + length a) && held_places r c w (k + length a + length b))
+-- of numbers and of places
+abbrev pub held_nodes : ℕ → List Float → List Float → List Float → List ℕ → ℕ → Bool
+held_nodes r x y z w k = held_three canonical_bits nan pattern r x y z w k
+
+abbrev pub held_panels : ℕ → List ℕ → List ℕ → List ℕ → List ℕ → ℕ → Bool
+held_panels r a b c w k = held_three (λ n. n) 0 77 r a b c w k
 
 -- a number, and six columns behind it
 unfoldable pub held_columns : ℕ → List Float → List Float → List Float → List ℕ → List ℕ → List ℕ → List ℕ → ℕ → Bool
-held_columns r x y z a b c w k = same_word r w k && (held_nodes r x y z w (k + 1) && held_panels r a b c w (k + 1 + length x + length y + length z))
+held_columns r x y z a b c w k = same_word r w k && held_nodes r x y z w (k + 1) && held_panels r a b c w (k + 1 + length x + length y + length z)
 
 -- the reader, with the six columns that are lent
 unfoldable pub read_file_into : List ℕ → List Float → List Float → List Float → List ℕ → List ℕ → List ℕ → List ℕ → ℕ → Bool

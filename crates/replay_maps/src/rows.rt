@@ -2,12 +2,12 @@
 ghost use Rattle.std.specs.Prelude.{◌≡◌};
 ghost use Rattle.replay_maps.specs.Maps as Spec;
 
-use replay_words::words::{same_place, size_at};
+use replay_words::words::{cut_at, same_place};
 
 pub fn row_matrix(f: &[f64; 2048], w: &[u64; 2048]) -> bool
     ensures { result ≡ Spec.row_matrix f.now w.now }
 {
-    let size = size_at(w, 0);
+    let size = cut_at(w, 0, 2048);
     let n = w[1] as usize;
     let node = w[2] as usize;
     let all = &f[..];
@@ -27,7 +27,7 @@ pub fn row_matrix(f: &[f64; 2048], w: &[u64; 2048]) -> bool
 pub fn row_map(f: &[f64; 2048], w: &[u64; 2048]) -> bool
     ensures { result ≡ Spec.row_map f.now w.now }
 {
-    let size = size_at(w, 0);
+    let size = cut_at(w, 0, 2048);
     let n = w[1] as usize;
     let node = w[2] as usize;
     let all = &f[..];
@@ -39,14 +39,13 @@ pub fn row_map(f: &[f64; 2048], w: &[u64; 2048]) -> bool
 }
 
 // By the kind's number.
+#[tactic(auto, unfolding(crate::specs::Maps::rows_agree))]
 pub fn agree(kind: u64, f: &[f64; 2048], w: &[u64; 2048]) -> bool
     ensures { result ≡ Spec.rows_agree kind f.now w.now }
 {
-    if kind == 31 {
-        return row_matrix(f, w);
+    match kind {
+        31 => row_matrix(f, w),
+        32 => row_map(f, w),
+        _ => false,
     }
-    if kind == 32 {
-        return row_map(f, w);
-    }
-    false
 }

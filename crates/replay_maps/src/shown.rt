@@ -2,7 +2,7 @@
 ghost use Rattle.std.specs.Prelude.{◌≡◌};
 ghost use Rattle.replay_maps.specs.Shown as Spec;
 
-use replay_words::words::same_word;
+use replay_words::words::same_refusal;
 
 // The whole number of a word of two's complement.
 fn signed(n: u64) -> i64
@@ -21,19 +21,18 @@ fn signed(n: u64) -> i64
 pub fn display(f: &[f64; 2048], w: &[u64; 2048]) -> bool
     ensures { result ≡ Spec.display f.now w.now }
 {
-    let shown = display::display(f[0]);
-    let value = shown.value;
-    let a = same_word(shown.refusal as u64, w, 1);
-    let stored = signed(w[2]);
-    (a) & (value == stored)
+    let outcome = display::display(f[0]);
+    let a = same_refusal(&outcome, w, 1);
+    a & (outcome.unwrap_or(0) == signed(w[2]))
 }
 
 // By the kind's number.
+#[tactic(auto, unfolding(crate::specs::Shown::shown_agree))]
 pub fn agree(kind: u64, f: &[f64; 2048], w: &[u64; 2048]) -> bool
     ensures { result ≡ Spec.shown_agree kind f.now w.now }
 {
-    if kind == 35 {
-        return display(f, w);
+    match kind {
+        35 => display(f, w),
+        _ => false,
     }
-    false
 }

@@ -20,8 +20,9 @@ densities_into m s jx jy jz w k =
     let p = k + 1 + length jx in
     let q = p + length jy in
     same_word r w k
-    && (held r (after r (Density.current_densities m s 0) jx) w (k + 1)
-    && (held r (after r (Density.current_densities m s 1) jy) w p && held r (after r (Density.current_densities m s 2) jz) w q))
+    && held r (after r (Density.current_densities m s 0) jx) w (k + 1)
+    && held r (after r (Density.current_densities m s 1) jy) w p
+    && held r (after r (Density.current_densities m s 2) jz) w q
 
 -- behind the mesh: nodal values and three lengths
 unfoldable pub densities_of : Mesh → List Float → List ℕ → ℕ → Bool
@@ -37,9 +38,10 @@ quadrature_into number m px py pz pw w k =
     let q = p + length py in
     let n = q + length pz in
     same_word r w k
-    && (held r (after r (Points.points_due rule m 0) px) w (k + 1)
-    && (held r (after r (Points.points_due rule m 1) py) w p
-    && (held r (after r (Points.points_due rule m 2) pz) w q && held r (after r (Points.weights_due rule m) pw) w n)))
+    && held r (after r (Points.points_due rule m 0) px) w (k + 1)
+    && held r (after r (Points.points_due rule m 1) py) w p
+    && held r (after r (Points.points_due rule m 2) pz) w q
+    && held r (after r (Points.weights_due rule m) pw) w n
 
 unfoldable pub quadrature_of : ℕ → Mesh → List ℕ → ℕ → Bool
 quadrature_of rule m w g =

@@ -2,11 +2,13 @@
 #![tactic(auto)]
 
 ghost use Rattle.std.specs.Prelude.{◌≡◌, ◌+◌, ◌≤◌, length};
-ghost use Rattle.mesh.specs.Mesh.{passed_mesh, mesh_of};
+ghost use Rattle.mesh.specs.Columns.{viewed};
+ghost use Rattle.node_move.specs.Move.{on_panels};
 ghost use Rattle.replay_move.specs.Move as Spec;
 
+use mesh::columns::{NodeColumns, PanelColumns, TriangleMeshView};
 use replay_columns::after::left_as_due;
-use replay_columns::columns::{column_at, nodes, panels};
+use replay_columns::columns::{column_at, mesh_at};
 use replay_words::copies::copied;
 use replay_words::words::{cut_at, rule_of, vector};
 
@@ -16,69 +18,48 @@ fn move_into(
     x: &mut [f64],
     y: &mut [f64],
     z: &mut [f64],
-    t0: &[usize],
-    t1: &[usize],
-    t2: &[usize],
+    panels: &PanelColumns,
     cells: &mut [f64],
     node: usize,
     place: [f64; 3],
-    x0: &[f64],
-    y0: &[f64],
-    z0: &[f64],
-    cells0: &[f64],
+    before: &NodeColumns,
+    cells_before: &[f64],
     w: &[u64; 2048],
     k: usize,
 ) -> bool
-    requires z0_bound { k + 2 + length cells0.now + length x0.now + length y0.now + length z0.now ≤ 2048 }
-    requires x_value { (x.old ≡ x0.now) × (y.old ≡ y0.now) × (z.old ≡ z0.now) × (cells.old ≡ cells0.now) }
-    ensures { result ≡ Spec.move_into rule (mesh_of x.old y.old z.old t0.now t1.now t2.now) cells.old node place w.now k }
+    requires z_bound { k + 2 + length cells_before.now + length before.now.x.now + length before.now.y.now + length before.now.z.now ≤ 2048 }
+    requires x_value { (x.old ≡ before.now.x.now) × (y.old ≡ before.now.y.now) × (z.old ≡ before.now.z.now) × (cells.old ≡ cells_before.now) }
+    ensures { result ≡ Spec.move_into rule (on_panels x.old y.old z.old panels.now) cells.old node place w.now k }
 {
-    let moved = node_move::move_node(
-        rule, x, y, z, t0, t1, t2, cells, node, place[0], place[1], place[2],
-    );
-    let refusal = moved.refusal;
-    let count = moved.count;
-    left_as_due(refusal, count, x, y, z, cells, x0, y0, z0, cells0, w, k)
+    let outcome = node_move::move_node(rule, x, y, z, panels, cells, node, place);
+    let now = NodeColumns { x, y, z };
+    left_as_due(outcome, &now, cells, before, cells_before, w, k)
 }
 
-fn move_of(
-    rule: u32,
-    x: &[f64],
-    y: &[f64],
-    z: &[f64],
-    t0: &[usize],
-    t1: &[usize],
-    t2: &[usize],
-    f: &[f64; 2048],
-    w: &[u64; 2048],
-    g: usize,
-) -> bool
-    requires { (g ≤ 298) × (length x.now ≤ 48) × (length y.now ≤ 48) × (length z.now ≤ 48) }
-    ensures { result ≡ Spec.move_of rule (passed_mesh x y z t0 t1 t2) f.now w.now g }
+fn move_of(rule: u32, mesh: &TriangleMeshView, f: &[f64; 2048], w: &[u64; 2048], g: usize) -> bool
+    requires { (g ≤ 298) × (length mesh.now.nodes.x.now ≤ 48) × (length mesh.now.nodes.y.now ≤ 48) × (length mesh.now.nodes.z.now ≤ 48) }
+    ensures { result ≡ Spec.move_of rule (viewed mesh.now) f.now w.now g }
 {
     let n = cut_at(w, g, 576);
     let all = &f[..];
     let cells = &all[g + 1..g + 1 + n];
     let node = w[g + 1 + n] as usize;
     let place = vector(f, g + 2 + n);
-    let mut xs = copied(x);
-    let mut ys = copied(y);
-    let mut zs = copied(z);
-    let mut cs = copied(cells);
+    let nodes = mesh.nodes;
+    let mut x = copied::<f64, 576>(nodes.x, 0.0);
+    let mut y = copied::<f64, 576>(nodes.y, 0.0);
+    let mut z = copied::<f64, 576>(nodes.z, 0.0);
+    let mut c = copied::<f64, 576>(cells, 0.0);
     move_into(
         rule,
-        &mut xs[0..x.len()],
-        &mut ys[0..y.len()],
-        &mut zs[0..z.len()],
-        t0,
-        t1,
-        t2,
-        &mut cs[0..cells.len()],
+        &mut x[0..nodes.x.len()],
+        &mut y[0..nodes.y.len()],
+        &mut z[0..nodes.z.len()],
+        &mesh.panels,
+        &mut c[0..cells.len()],
         node,
         place,
-        x,
-        y,
-        z,
+        &nodes,
         cells,
         w,
         g + 5 + n,
@@ -86,26 +67,21 @@ fn move_of(
 }
 
 // The move of a case.
+#[tactic(auto, unfolding(crate::specs::Move::move_case))]
 fn move_case(f: &[f64; 2048], u: &[usize; 2048], w: &[u64; 2048]) -> bool
     ensures { result ≡ Spec.move_case f.now u.now w.now }
 {
-    let rule = rule_of(w[0]);
-    let x = nodes(f, w, 1, 0);
-    let y = nodes(f, w, 1, 1);
-    let z = nodes(f, w, 1, 2);
-    let t0 = panels(u, w, 1, 3);
-    let t1 = panels(u, w, 1, 4);
-    let t2 = panels(u, w, 1, 5);
-    let g = column_at(w, 1, 6);
-    move_of(rule, x, y, z, t0, t1, t2, f, w, g)
+    let mesh = mesh_at(f, u, w, 1);
+    move_of(rule_of(w[0]), &mesh, f, w, column_at(w, 1, 6))
 }
 
 // By the kind's number.
+#[tactic(auto, unfolding(crate::specs::Move::moves_agree))]
 pub fn agree(kind: u64, f: &[f64; 2048], u: &[usize; 2048], w: &[u64; 2048]) -> bool
     ensures { result ≡ Spec.moves_agree kind f.now u.now w.now }
 {
-    if kind == 30 {
-        return move_case(f, u, w);
+    match kind {
+        30 => move_case(f, u, w),
+        _ => false,
     }
-    false
 }

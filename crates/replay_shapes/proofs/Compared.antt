@@ -15,15 +15,16 @@ use Rattle.replay_columns.specs.Store.{bytes_at, numbers_at, part_at, name_at}
 use Rattle.replay_columns.proofs.Leaving.{by_number}
 use Rattle.replay_shapes.specs.Shapes.{store_at, saved_as_due, save_into, dropped_as_due, drop_into}
 
--- a save whose copies are what the case has
-pub save_compared : (b w : List ℕ) (e : ℕ) {m : Mesh} {s s0 s' : Store} {name : List ℕ} {r : ℕ} {t : Bool}
+-- a save whose copies are what the case has, and are lent as a store
+pub save_compared : (b w : List ℕ) (e : ℕ) {m : Mesh} {s s0 s' s'' : Store} {name : List ℕ} {r : ℕ} {t : Bool}
     → name ≡ name_at b e
     → s ≡ s0
     → Saved m s name r s'
-    → t ≡ saved_as_due r s' s0 b w (e + 1)
+    → s'' ≡ s'
+    → t ≡ saved_as_due r s'' s0 b w (e + 1)
     → t ≡ save_into m s b w e
 unfolding save_into
-save_compared b w e {r = r} n c h d = rw (← n, ← h.number, ← by_number r _ _ _ h.done h.refused, c) d
+save_compared b w e {r = r} n c h l d = rw (← n, ← h.number, ← by_number r _ _ _ h.done h.refused, ← l, c) d
 
 -- a drop whose copy is what the case has
 pub drop_compared : (b w marks0 : List ℕ) (e : ℕ) {m : Mesh} {s s' : Store} {name : List ℕ} {r : ℕ} {t : Bool}

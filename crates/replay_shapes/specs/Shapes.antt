@@ -17,6 +17,10 @@ store_at b f w q =
 abbrev pub ColumnsShort : Store → Type 0
 ColumnsShort s = (length s.xs ≤ 80) × (length s.ys ≤ 80) × (length s.zs ≤ 80)
 
+-- so are its marks and names
+abbrev pub PartsShort : Store → Type 0
+PartsShort s = (length s.marks ≤ 80) × (length s.names ≤ 80) × ColumnsShort s
+
 -- a store's columns after a call are as long as before it
 abbrev pub AsLong : Store → Store → Type 0
 AsLong s s0 = (length s.xs ≡ length s0.xs) × (length s.ys ≡ length s0.ys) × (length s.zs ≡ length s0.zs)
@@ -32,7 +36,7 @@ saved_as_due r s s0 b w k =
     let marks = kept_bytes r s.marks s0.marks (bytes_at b w (part_at w q 0)) in
     let names = kept_bytes r s.names s0.names (bytes_at b w (part_at w q 1)) in
     let columns = kept_columns r s.xs s.ys s.zs s0.xs s0.ys s0.zs w (part_at w q 2) in
-    same_word r w k && (marks && (names && columns))
+    same_word r w k && marks && names && columns
 
 -- the mesh saved in a store; the name stands at place e, the results behind it
 unfoldable pub save_into : Mesh → Store → List ℕ → List ℕ → ℕ → Bool

@@ -1,4 +1,4 @@
 pub mod Lent
 pub mod Copy
 pub mod Comparing
-pub mod ComparingBytes
+pub mod Outcomes

@@ -1,5 +1,5 @@
 -- The replay: a stored case as 2,048 words, and how a result is held to it: bit by bit, every NaN as one number. Definitions only.
-use Rattle.std.specs.Prelude.{Bool, cond, ◌&&◌, List, [], ◌∷◌, ℕ, ◌+◌, ◌-◌, ◌^◌, eqb, ltb, get_or, take, drop, Float}
+use Rattle.std.specs.Prelude.{Bool, cond, Option, None, Some, ◌&&◌, List, [], ◌∷◌, ℕ, ◌+◌, ◌-◌, ◌^◌, eqb, ltb, get_or, take, drop, Float}
 use Rattle.binary64.specs.Binary64.{at}
 use Rattle.ieee754.specs.Ieee754.{canonical_bits}
 
@@ -24,16 +24,17 @@ unfoldable pub same_flag : Bool → List ℕ → ℕ → Bool
 same_flag t w k = same_word (cond t 1 0) w k
 
 unfoldable pub same_vector : List Float → List ℕ → ℕ → Bool
-same_vector v w k = same_number (at v 0) w k && (same_number (at v 1) w (k + 1) && same_number (at v 2) w (k + 2))
+same_vector v w k = same_number (at v 0) w k && same_number (at v 1) w (k + 1) && same_number (at v 2) w (k + 2)
 
 unfoldable pub same_triangle : List (List Float) → List ℕ → ℕ → Bool
-same_triangle t w k = same_vector (get_or t 0 []) w k && (same_vector (get_or t 1 []) w (k + 3) && same_vector (get_or t 2 []) w (k + 6))
+same_triangle t w k = same_vector (get_or t 0 []) w k && same_vector (get_or t 1 []) w (k + 3) && same_vector (get_or t 2 []) w (k + 6)
 
 -- nine numbers, row by row
 unfoldable pub same_nine : List Float → List ℕ → ℕ → Bool
 same_nine v w k =
     same_vector (at v 0 ∷ at v 1 ∷ at v 2 ∷ []) w k
-    && (same_vector (at v 3 ∷ at v 4 ∷ at v 5 ∷ []) w (k + 3) && same_vector (at v 6 ∷ at v 7 ∷ at v 8 ∷ []) w (k + 6))
+    && same_vector (at v 3 ∷ at v 4 ∷ at v 5 ∷ []) w (k + 3)
+    && same_vector (at v 6 ∷ at v 7 ∷ at v 8 ∷ []) w (k + 6)
 
 -- a refusal and a value
 unfoldable pub same_value : ℕ → Float → List ℕ → ℕ → Bool
@@ -43,13 +44,9 @@ same_value r v w k = same_word r w k && same_number v w (k + 1)
 unfoldable pub rule_of : ℕ → ℕ
 rule_of n = cond (ltb n (2 ^ 32)) n 0
 
--- so many words of input and of results; 2,049 where they are more than a case may have
-unfoldable pub size_of : ℕ → ℕ → ℕ
-size_of inputs results = cond (ltb 2048 inputs) 2049 (cond (ltb (2048 - inputs) results) 2049 (inputs + results))
-
--- a stored length, cut at 64: a case that has more differs
-unfoldable pub length_at : List ℕ → ℕ → ℕ
-length_at w k = cond (ltb 64 (get_or w k 0)) 64 (get_or w k 0)
+-- so many words of input and of results; none where they are more than a case may have
+unfoldable pub size_of : ℕ → ℕ → Option ℕ
+size_of inputs results = cond (ltb 2048 (inputs + results)) None (Some (inputs + results))
 
 -- the numbers from place a up to place e
 abbrev pub part : {A : Type 0} → List A → ℕ → ℕ → List A
@@ -59,13 +56,16 @@ part f a e = take (e - a) (drop a f)
 unfoldable pub cut_at : List ℕ → ℕ → ℕ → ℕ
 cut_at w k most = cond (ltb most (get_or w k 0)) most (get_or w k 0)
 
+-- cut at 64, or at 2,048: a case that has more differs
+abbrev pub length_at : List ℕ → ℕ → ℕ
+length_at w k = cut_at w k 64
+
+abbrev pub size_at : List ℕ → ℕ → ℕ
+size_at w k = cut_at w k 2048
+
 -- the place behind a mesh's column that begins with its length at place k
 unfoldable pub column_end : List ℕ → ℕ → ℕ
 column_end w k = k + 1 + cut_at w k 48
-
--- the same, cut at 2,048
-unfoldable pub size_at : List ℕ → ℕ → ℕ
-size_at w k = cond (ltb 2048 (get_or w k 0)) 2048 (get_or w k 0)
 
 -- a refusal and a count
 unfoldable pub same_count : ℕ → ℕ → List ℕ → ℕ → Bool
@@ -73,4 +73,4 @@ same_count r n w k = same_word r w k && same_word n w (k + 1)
 
 -- a refusal, where a row begins and how long it is
 unfoldable pub same_place : ℕ → ℕ → ℕ → List ℕ → ℕ → Bool
-same_place r offset long w k = same_word r w k && (same_word offset w (k + 1) && same_word long w (k + 2))
+same_place r offset long w k = same_word r w k && same_word offset w (k + 1) && same_word long w (k + 2)

@@ -1,6 +1,10 @@
 // A stored case: 2,048 words, the same as numbers, and the comparison of results with them.
 ghost use Rattle.std.specs.Prelude.{◌≡◌, ◌+◌, ◌≤◌, ◌<◌};
+ghost use Rattle.binary64.specs.Binary64.{plus_zero};
+ghost use Rattle.refusal.specs.Outcome.{number_of, value_or};
 ghost use Rattle.replay_words.specs.Words as Spec;
+
+use refusal::Refusal;
 
 pub fn vector(f: &[f64; 2048], k: usize) -> [f64; 3]
     requires { k + 3 ≤ 2048 }
@@ -64,7 +68,7 @@ pub fn same_vector(v: [f64; 3], w: &[u64; 2048], k: usize) -> bool
     let a = same_number(v[0], w, k);
     let b = same_number(v[1], w, k + 1);
     let c = same_number(v[2], w, k + 2);
-    (a) & ((b) & (c))
+    a & b & c
 }
 
 pub fn same_triangle(t: [[f64; 3]; 3], w: &[u64; 2048], k: usize) -> bool
@@ -74,7 +78,7 @@ pub fn same_triangle(t: [[f64; 3]; 3], w: &[u64; 2048], k: usize) -> bool
     let a = same_vector(t[0], w, k);
     let b = same_vector(t[1], w, k + 3);
     let c = same_vector(t[2], w, k + 6);
-    (a) & ((b) & (c))
+    a & b & c
 }
 
 pub fn same_nine(v: [f64; 9], w: &[u64; 2048], k: usize) -> bool
@@ -84,16 +88,25 @@ pub fn same_nine(v: [f64; 9], w: &[u64; 2048], k: usize) -> bool
     let a = same_vector([v[0], v[1], v[2]], w, k);
     let b = same_vector([v[3], v[4], v[5]], w, k + 3);
     let c = same_vector([v[6], v[7], v[8]], w, k + 6);
-    (a) & ((b) & (c))
+    a & b & c
 }
 
-pub fn same_value(refusal: u32, value: f64, w: &[u64; 2048], k: usize) -> bool
-    requires { k + 2 ≤ 2048 }
-    ensures { result ≡ Spec.same_value refusal value w.now k }
+// A call's number, 0 where it is done.
+pub fn same_refusal<A>(outcome: &Result<A, Refusal>, w: &[u64; 2048], k: usize) -> bool
+    requires { k < 2048 }
+    ensures { result ≡ Spec.same_word (number_of outcome.now) w.now k }
 {
-    let a = same_word(refusal as u64, w, k);
-    let b = same_number(value, w, k + 1);
-    (a) & (b)
+    same_word(refusal::number_of(outcome) as u64, w, k)
+}
+
+// A call's number and its value, zero on a refusal.
+pub fn same_value(outcome: Result<f64, Refusal>, w: &[u64; 2048], k: usize) -> bool
+    requires { k + 2 ≤ 2048 }
+    ensures { result ≡ Spec.same_value (number_of outcome) (value_or plus_zero outcome) w.now k }
+{
+    let a = same_refusal(&outcome, w, k);
+    let b = same_number(outcome.unwrap_or(0.0), w, k + 1);
+    a & b
 }
 
 pub fn rule_of(n: u64) -> u32
@@ -105,40 +118,12 @@ pub fn rule_of(n: u64) -> u32
     0
 }
 
-// A stored length, cut at 64.
-pub fn length_at(w: &[u64; 2048], k: usize) -> usize
-    requires { k < 2048 }
-    ensures { (result ≡ Spec.length_at w.now k) × (result ≤ 64) }
-{
-    let n = w[k];
-    if n > 64 {
-        return 64;
-    }
-    n as usize
-}
-
-// The same, cut at 2,048.
-pub fn size_at(w: &[u64; 2048], k: usize) -> usize
-    requires { k < 2048 }
-    ensures { (result ≡ Spec.size_at w.now k) × (result ≤ 2048) }
-{
-    let n = w[k];
-    if n > 2048 {
-        return 2048;
-    }
-    n as usize
-}
-
-// The same, cut at a given length.
+// A stored length, cut at the most that is replayed.
 pub fn cut_at(w: &[u64; 2048], k: usize, most: usize) -> usize
     requires { k < 2048 }
     ensures { (result ≡ Spec.cut_at w.now k most) × (result ≤ most) }
 {
-    let n = w[k];
-    if n > most as u64 {
-        return most;
-    }
-    n as usize
+    w[k].min(most as u64) as usize
 }
 
 // The place behind a mesh's column.
@@ -149,14 +134,14 @@ pub fn column_end(w: &[u64; 2048], k: usize) -> usize
     k + 1 + cut_at(w, k, 48)
 }
 
-// A refusal and a count.
-pub fn same_count(refusal: u32, count: usize, w: &[u64; 2048], k: usize) -> bool
+// A call's number and its count, 0 on a refusal.
+pub fn same_count(outcome: Result<usize, Refusal>, w: &[u64; 2048], k: usize) -> bool
     requires { k + 2 ≤ 2048 }
-    ensures { result ≡ Spec.same_count refusal count w.now k }
+    ensures { result ≡ Spec.same_count (number_of outcome) (value_or 0 outcome) w.now k }
 {
-    let a = same_word(refusal as u64, w, k);
-    let b = same_word(count as u64, w, k + 1);
-    (a) & (b)
+    let a = same_refusal(&outcome, w, k);
+    let b = same_word(outcome.unwrap_or(0) as u64, w, k + 1);
+    a & b
 }
 
 // A refusal, where a row begins and how long it is.
@@ -167,5 +152,5 @@ pub fn same_place(refusal: u32, offset: usize, count: usize, w: &[u64; 2048], k:
     let a = same_word(refusal as u64, w, k);
     let b = same_word(offset as u64, w, k + 1);
     let c = same_word(count as u64, w, k + 2);
-    (a) & ((b) & (c))
+    a & b & c
 }

@@ -1,27 +1,15 @@
--- Flags of the panels, one more at a time; and none is flagged if no pair of panel 0 has a flagged panel.
+-- None is flagged if no pair of panel 0 has a flagged panel.
 use mathlib.Core.Path.{◌≡◌, sym, ◌∙◌}
 use mathlib.Core.Bool.{Bool, false}
-use mathlib.Core.Logic.{◌⊎◌, inl, inr}
 use mathlib.Core.List.{List}
-use Prim.Native.Nat.{ℕ, ◌+◌, ◌-◌, ◌<◌, ◌≤◌}
-use native.Mathlib.Nat.{eq-or-lt_of_le}
+use Prim.Native.Nat.{ℕ, ◌-◌, ◌<◌, ◌≤◌}
 use native.Mathlib.Omega.{arith}
-use lib.ListN.{length, set}
-use lib.Seq.{get_or-set_same, get_or-set_other}
 use Rattle.lists.specs.Counting.{any_of, next_from}
 use Rattle.lists.proofs.First.{next_none}
 use Rattle.mesh.specs.Mesh.{Mesh, ntri, triangle_indices}
 use Rattle.refusal.proofs.Tests.{or_off}
 use Rattle.scatter.specs.Renewal.{named, marked}
 use Rattle.scatter.specs.Flags.{Flagged}
-
-pub flag_more : (m : Mesh) (marks flags : List Bool) (i : ℕ) (v : Bool)
-    → i < length flags → v ≡ any_of (marked marks) (triangle_indices m i) → Flagged i m marks flags → Flagged (i + 1) m marks (set flags i v)
-flag_more m marks flags i v l e w = λ k b. go k (eq-or-lt_of_le (omega (arith, b)))
-  where
-    go : (k : ℕ) → (k ≡ i) ⊎ (k < i) → marked (set flags i v) k ≡ any_of (marked marks) (triangle_indices m k)
-    go k (inl z) = rw z (get_or-set_same flags i v false l ∙ e)
-    go k (inr z) = get_or-set_other flags i k v false (λ q. absurd (omega (arith, z, q))) ∙ w k z
 
 pub none-flagged : (m : Mesh) (marks flags : List Bool) (first : ℕ)
     → Flagged (ntri m) m marks flags

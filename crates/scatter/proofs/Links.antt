@@ -1,6 +1,6 @@
 -- The first marked number: in a row that is named its first column, in another the first marked one; and a step of the scan that finds it from above.
 use mathlib.Core.Path.{◌≡◌, refl, sym, ap, ◌∙◌, subst}
-use mathlib.Core.Bool.{Bool, true, false, cond}
+use mathlib.Core.Bool.{Bool, true, cond}
 use mathlib.Core.Logic.{◌⊎◌, inl, inr}
 use mathlib.Core.List.{List}
 use Prim.Native.Nat.{ℕ, zero, suc, ◌+◌, ◌-◌, ◌<◌, ◌≤◌}
@@ -9,7 +9,7 @@ use native.Mathlib.Omega.{arith}
 use lib.ListN.{length, get_or, set}
 use lib.Seq.{get_or-set_same, get_or-set_other}
 use Rattle.lists.specs.Counting.{next_from}
-use Rattle.lists.proofs.First.{next_alike, next_step}
+use Rattle.lists.proofs.First.{next_step}
 use Rattle.scatter.specs.Renewal.{named}
 use Rattle.scatter.specs.Links.{LinksNext}
 
@@ -18,9 +18,6 @@ pub row-marked : (r : ℕ → Bool) (row col c : ℕ) → r row ≡ true → col
 unfolding next_from
 row-marked r row col zero h = refl
 row-marked r row col (suc c) h = rw h
-
-pub next_linked : (r : ℕ → Bool) (row col c : ℕ) → r row ≡ false → next_from r col c ≡ next_from (named r row) col c
-next_linked r row col c h = next_alike r (named r row) col c (λ k. rw h)
 
 -- ---- the scan from above
 link_more : (t : ℕ → Bool) (n k : ℕ) (links : List ℕ) (v : ℕ)

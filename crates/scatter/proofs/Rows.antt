@@ -4,7 +4,7 @@ use mathlib.Core.Path.{◌≡◌, refl, sym, ap, ap₂, ◌∙◌}
 use mathlib.Core.Bool.{Bool, true, false, cond}
 use mathlib.Core.List.{List}
 use Prim.Native.Nat.{ℕ, zero, suc, ◌+◌, ◌-◌, ◌*◌, ◌/◌, ◌%◌, ◌<◌, ◌≤◌}
-use native.Mathlib.Nat.{mul-le-mul, le_refl, suc-mul, zero-mul, zero-add}
+use native.Mathlib.Nat.{mul-le-mul, le_refl, suc-mul, zero-add}
 use native.Mathlib.Numerals.{add-one}
 use native.Mathlib.Omega.{arith}
 use borrow.Author.Tests.{leb-false, le-leb, lt-leb}
@@ -16,15 +16,13 @@ use lib.Ieee.{Float, nan}
 use Rattle.binary64.specs.Binary64.{at, plus_zero}
 use Rattle.lists.specs.Counting.{next_from}
 use Rattle.lists.specs.Filling.{filled, run}
-use Rattle.lists.proofs.Filling.{fill_start, column-long, column_end_lem, run_start, run-run, run_length, run_turn, run_next}
+use Rattle.lists.proofs.Filling.{column-long, column_end_lem, run_start, run-run, run_length, run_turn, run_next}
 use Rattle.lists.proofs.First.{next_bounds, next_passes, next_keeps}
 use Rattle.lists.proofs.Runs.{run-before, run-behind, run_inside}
 use Rattle.lists.proofs.Stretches.{row_end}
 use Rattle.scatter.specs.Entries.{square}
-use Rattle.mesh.specs.Mesh.{max_nodes}
-use Rattle.scatter.specs.Renewal.{named, renewed_cell, renewed, marked, Sized}
+use Rattle.scatter.specs.Renewal.{named, renewed_cell, renewed}
 use Rattle.scatter.specs.Mirror.{mirrored, cells_of}
-use Rattle.scatter.specs.Links.{LinksNext}
 
 rows_fit : (rows n : ℕ) → rows ≤ n → rows * n ≤ n * n
 rows_fit rows n l = mul-le-mul l (le_refl n)
@@ -103,25 +101,6 @@ pub record RowsRenewed (r : ℕ → Bool) (g : ℕ → ℕ → Float) (n : ℕ) 
   pub written : now ≡ filled held (n * n) (due_at r g n held) (row * n)
 
 module _ {r : ℕ → Bool} {g : ℕ → ℕ → Float} {n : ℕ} {held : List Float} where
-  pub rows_begun : length held ≡ n * n → RowsRenewed r g n held 0 held
-  rows_begun size = record {
-    size = size;
-    below = omega arith;
-    long = refl;
-    written = fill_start held (n * n) (due_at r g n held) ∙ ap (filled held (n * n) (due_at r g n held)) (sym (zero-mul n));
-  }
-
-  -- what a row's loop asks
-  pub row_ready : {row : ℕ} {now : List Float} (marks : List Bool) (links : List ℕ)
-      → RowsRenewed r g n held row now
-      → Sized n held marks
-      → row < n
-      → length links ≡ max_nodes
-      → LinksNext 0 (marked marks) n links
-      → Sized n now marks × ((row < n) × (n ≤ length links) × LinksNext 0 (marked marks) n links)
-  row_ready marks links w s l long linked =
-      (record { small = s.small; cells = w.long ∙ w.size; enough = s.enough }, (l, rw long s.small, linked))
-
   -- a row is done in the matrix as it stands, to numbers h that are due
   pub rows_turn : {row : ℕ} {now new : List Float} (h : ℕ → Float)
       → RowsRenewed r g n held row now

@@ -3,7 +3,7 @@ use mathlib.Core.Path.{◌≡◌, refl, sym, ap, ◌∙◌, subst}
 use mathlib.Core.Bool.{Bool, true, false}
 use mathlib.Core.List.{List, [], ◌∷◌, ◌++◌, map}
 use Prim.Native.Nat.{ℕ, zero, suc, ◌+◌, ◌*◌, ◌/◌, ◌%◌, ◌<◌, ◌≤◌}
-use native.Mathlib.Nat.{lt_trans, mul-le-mul, zero-mul, not-suc-le-zero, div-lt_iff_lt-mul, mod-lt}
+use native.Mathlib.Nat.{mul-le-mul, zero-mul, not-suc-le-zero, div-lt_iff_lt-mul, mod-lt}
 use native.Mathlib.Omega.{arith}
 use lib.Arith.{digits_lt}
 use lib.ListN.{length}
@@ -16,10 +16,6 @@ use Rattle.scatter.proofs.Cells.{only-append, scatter-append, length-scatter}
 -- ---- where a cell stands
 pub in_square : {n row col : ℕ} → n ≤ max_nodes → row < n → col < n → (row * n + col < n * n) × (n * n ≤ max_nodes * max_nodes)
 in_square {n} s r c = (digits_lt r c, mul-le-mul s s)
-
--- two cells that mirror each other
-pub both_in_square : {n a b : ℕ} → n ≤ max_nodes → a < b → b < n → (a * n + b < n * n) × (b * n + a < n * n) × (n * n ≤ max_nodes * max_nodes)
-both_in_square s l h = let w = in_square s h (lt_trans l h) in ((in_square s (lt_trans l h) h).0, w.0, w.1)
 
 some-node : {n k l : ℕ} → l ≡ n * n → k < l → 0 < n
 some-node {n} {k} e h = pos_of n (subst (λ (x : ℕ). k < x) e h)

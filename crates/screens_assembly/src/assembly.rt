@@ -11,6 +11,10 @@ ghost use Rattle.shape_store.specs.Store.{passed_store};
 ghost use Rattle.shape_return.specs.Return.{ReturnedBy, lent_screen};
 ghost use Rattle.screens_assembly.specs.Rows.{RowAt};
 
+use mesh::columns::{NodeColumns, PanelColumns, TriangleMeshView};
+use refusal::{hand_out, number_of};
+use shape_store::ShapeStore;
+
 // The matrix, row by row, under the rule of a number from 1 to 5.
 pub fn screens_mesh_inductance_matrix(
     rule: u32,
@@ -24,7 +28,11 @@ pub fn screens_mesh_inductance_matrix(
 ) -> u32
     ensures { Assembled rule (passed_mesh x y z t0 t1 t2) out.old result out.new }
 {
-    inductance::triangle_mesh_inductance_matrix(rule, x, y, z, t0, t1, t2, out)
+    let mesh = TriangleMeshView {
+        nodes: NodeColumns { x, y, z },
+        panels: PanelColumns { t0, t1, t2 },
+    };
+    number_of(&inductance::triangle_mesh_inductance_matrix(rule, &mesh, out))
 }
 
 // The matrix between source values s and target values t; it goes to the lent number, 0 on a refusal, as every value below.
@@ -37,8 +45,7 @@ pub fn screens_mesh_inductance_from_potentials(
     ensures { Energy.VectorsAnswered matrix.now s.now t.now result value.new }
 {
     let answer = linkage::energy::triangle_mesh_inductance_from_potential_vectors(matrix, s, t);
-    *value = answer.value;
-    answer.refusal
+    hand_out(answer, 0.0, value)
 }
 
 // Half of the matrix between s and itself.
@@ -46,15 +53,16 @@ pub fn screens_mesh_inductive_energy(matrix: &[f64], s: &[f64], value: &mut f64)
     ensures { Energy.EnergyAnswered matrix.now s.now result value.new }
 {
     let answer = linkage::energy::triangle_mesh_inductive_energy(matrix, s);
-    *value = answer.value;
-    answer.refusal
+    hand_out(answer, 0.0, value)
 }
 
 // The flux linkage of each node.
 pub fn screens_mesh_flux_linkage(map: &[f64], coefficients: &[f64], out: &mut [f64]) -> u32
     ensures { Linked map.now coefficients.now out.old result out.new }
 {
-    linkage::flux::triangle_mesh_flux_linkage_from_source_coefficients(map, coefficients, out)
+    number_of(
+        &linkage::flux::triangle_mesh_flux_linkage_from_source_coefficients(map, coefficients, out),
+    )
 }
 
 // The interaction energy of nodal values and source coefficients.
@@ -71,8 +79,7 @@ pub fn screens_mesh_interaction_energy(
         values,
         coefficients,
     );
-    *value = answer.value;
-    answer.refusal
+    hand_out(answer, 0.0, value)
 }
 
 // The row of a node in a matrix for n nodes, as where it begins and how long it is: 0 and 0 on a refusal.
@@ -85,15 +92,18 @@ pub fn screens_matrix_row(
 ) -> u32
     ensures { RowAt (Row.matrix_row_refusal (List.length matrix.now) n node) n node result offset.new count.new }
 {
-    let refusal = linkage::row::triangle_mesh_matrix_row_refusal(matrix, n, node);
-    if refusal != 0 {
-        *offset = 0;
-        *count = 0;
-        return refusal;
+    match linkage::row::triangle_mesh_matrix_row(matrix, n, node) {
+        Ok(_) => {
+            *offset = node * n;
+            *count = n;
+            0
+        }
+        Err(refusal) => {
+            *offset = 0;
+            *count = 0;
+            refusal.number()
+        }
     }
-    *offset = node * n;
-    *count = n;
-    0
 }
 
 // The row of a node in a map for so many sources, in the same way.
@@ -106,15 +116,18 @@ pub fn screens_map_row(
 ) -> u32
     ensures { RowAt (Row.map_row_refusal (List.length map.now) sources node) sources node result offset.new count.new }
 {
-    let refusal = linkage::row::triangle_mesh_map_row_refusal(map, sources, node);
-    if refusal != 0 {
-        *offset = 0;
-        *count = 0;
-        return refusal;
+    match linkage::row::triangle_mesh_map_row(map, sources, node) {
+        Ok(_) => {
+            *offset = node * sources;
+            *count = sources;
+            0
+        }
+        Err(refusal) => {
+            *offset = 0;
+            *count = 0;
+            refusal.number()
+        }
     }
-    *offset = node * sources;
-    *count = sources;
-    0
 }
 
 // A node moved to the place (px, py, pz), under the rule of a number: the coordinates are written, the cells of its ring's rows and
@@ -136,9 +149,9 @@ pub fn screens_move_node(
 ) -> u32
     ensures { MovedBy rule (mesh_of x.old y.old z.old t0.now t1.now t2.now) matrix.old node px py pz result count.new (left_mesh x y z t0 t1 t2) matrix.new }
 {
-    let moved = node_move::move_node(rule, x, y, z, t0, t1, t2, matrix, node, px, py, pz);
-    *count = moved.count;
-    moved.refusal
+    let panels = PanelColumns { t0, t1, t2 };
+    let moved = node_move::move_node(rule, x, y, z, &panels, matrix, node, [px, py, pz]);
+    hand_out(moved, 0, count)
 }
 
 // The return to the shape of a name, with the count of the renewed cells, 0 on a refusal.
@@ -161,9 +174,16 @@ pub fn screens_return_shape(
 ) -> u32
     ensures { ReturnedBy rule (lent_screen x y z t0 t1 t2 out) (passed_store marks names sx sy sz) name.now result count.new }
 {
-    let returned = shape_return::return_shape(
-        rule, x, y, z, t0, t1, t2, out, marks, names, sx, sy, sz, name,
-    );
-    *count = returned.count;
-    returned.refusal
+    let panels = PanelColumns { t0, t1, t2 };
+    let store = ShapeStore {
+        marks,
+        names,
+        shapes: NodeColumns {
+            x: sx,
+            y: sy,
+            z: sz,
+        },
+    };
+    let returned = shape_return::return_shape(rule, x, y, z, &panels, out, &store, name);
+    hand_out(returned, 0, count)
 }

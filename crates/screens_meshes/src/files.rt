@@ -4,15 +4,15 @@ ghost use Rattle.panel_file.specs.PanelFile.{Read};
 ghost use Rattle.panel_file_write.specs.Write.{Written};
 ghost use Rattle.display.specs.Display.{Displayed};
 
+use mesh::columns::{NodeColumns, PanelColumns, TriangleMeshView};
+use refusal::{hand_out, number_of};
+
 // Whole nanohenries; they go to the lent number, 0 on a refusal.
 #[unsafe(no_mangle)]
 pub extern "C" fn screens_display(x: f64, value: &mut i64) -> u32
     ensures { Displayed x result value.new }
 {
-    let shown = display::display(x);
-    let nanohenries = shown.value;
-    *value = nanohenries;
-    shown.refusal
+    hand_out(display::display(x), 0, value)
 }
 
 // A panel file's columns, which must be of its counts; as they were on a refusal.
@@ -28,7 +28,7 @@ pub extern "C" fn screens_read_panel_file(
 ) -> u32
     ensures { Read max_nodes max_panels file.now (mesh_of x.old y.old z.old t0.old t1.old t2.old) result (written_mesh x y z t0 t1 t2) }
 {
-    panel_file::read_panel_file(file, x, y, z, t0, t1, t2)
+    number_of(&panel_file::read_panel_file(file, x, y, z, t0, t1, t2))
 }
 
 // The panel file of a mesh, into an output of exactly its length; as it was on a refusal.
@@ -44,5 +44,9 @@ pub extern "C" fn screens_write_panel_file(
 ) -> u32
     ensures { Written max_nodes max_panels (passed_mesh x y z t0 t1 t2) file.old result file.new }
 {
-    panel_file_write::write_panel_file(x, y, z, t0, t1, t2, file)
+    let mesh = TriangleMeshView {
+        nodes: NodeColumns { x, y, z },
+        panels: PanelColumns { t0, t1, t2 },
+    };
+    number_of(&panel_file_write::write_panel_file(&mesh, file))
 }

@@ -5,6 +5,8 @@ ghost use Rattle.boundary_element.specs.CurrentDensity.{Densities};
 ghost use Rattle.boundary_element.specs.QuadraturePoints.{PointsBy};
 
 use boundary_element::{current_density, quadrature_points};
+use mesh::columns::{NodeColumns, PanelColumns, TriangleMeshView};
+use refusal::{hand_out, number_of};
 
 // The mesh test's number; the count of poor panels, 0 on a refusal, goes to the lent number.
 #[unsafe(no_mangle)]
@@ -19,9 +21,11 @@ pub extern "C" fn screens_mesh_test(
 ) -> u32
     ensures { Tested (passed_mesh x y z t0 t1 t2) result poor.new }
 {
-    let tested = mesh::validate_triangle_mesh_geometry(x, y, z, t0, t1, t2);
-    *poor = tested.poor;
-    tested.refusal
+    let mesh = TriangleMeshView {
+        nodes: NodeColumns { x, y, z },
+        panels: PanelColumns { t0, t1, t2 },
+    };
+    hand_out(mesh::validate_triangle_mesh_geometry(&mesh), 0, poor)
 }
 
 // The current density on each panel, for the nodal values s.
@@ -40,7 +44,11 @@ pub extern "C" fn screens_mesh_current_density(
 ) -> u32
     ensures { Densities (passed_mesh x y z t0 t1 t2) s.now jx.old jy.old jz.old result jx.new jy.new jz.new }
 {
-    current_density::triangle_mesh_current_density(x, y, z, t0, t1, t2, s, jx, jy, jz)
+    let mesh = TriangleMeshView {
+        nodes: NodeColumns { x, y, z },
+        panels: PanelColumns { t0, t1, t2 },
+    };
+    number_of(&current_density::triangle_mesh_current_density(&mesh, s, jx, jy, jz))
 }
 
 // The quadrature points of each panel and their area weights, under the rule of a number from 1 to 5.
@@ -60,5 +68,9 @@ pub extern "C" fn screens_mesh_quadrature_points(
 ) -> u32
     ensures { PointsBy rule (passed_mesh x y z t0 t1 t2) px.old py.old pz.old pw.old result px.new py.new pz.new pw.new }
 {
-    quadrature_points::triangle_mesh_quadrature_points(rule, x, y, z, t0, t1, t2, px, py, pz, pw)
+    let mesh = TriangleMeshView {
+        nodes: NodeColumns { x, y, z },
+        panels: PanelColumns { t0, t1, t2 },
+    };
+    number_of(&quadrature_points::triangle_mesh_quadrature_points(rule, &mesh, px, py, pz, pw))
 }

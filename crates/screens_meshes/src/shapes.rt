@@ -2,6 +2,9 @@
 ghost use Rattle.mesh.specs.Mesh.{passed_mesh};
 ghost use Rattle.shape_store.specs.Store.{left_store, left_marks, Saved, Dropped, store_of};
 
+use mesh::columns::{NodeColumns, PanelColumns, TriangleMeshView};
+use refusal::number_of;
+
 // Saves the mesh's shape under a name: over the shape of that name, or at the first free place.
 #[unsafe(no_mangle)]
 pub extern "C" fn screens_save_shape(
@@ -20,7 +23,11 @@ pub extern "C" fn screens_save_shape(
 ) -> u32
     ensures { Saved (passed_mesh x y z t0 t1 t2) (store_of marks.old names.old sx.old sy.old sz.old) name.now result (left_store marks names sx sy sz) }
 {
-    shape_store::save_shape(x, y, z, t0, t1, t2, marks, names, sx, sy, sz, name)
+    let mesh = TriangleMeshView {
+        nodes: NodeColumns { x, y, z },
+        panels: PanelColumns { t0, t1, t2 },
+    };
+    number_of(&shape_store::save_shape(&mesh, marks, names, sx, sy, sz, name))
 }
 
 // Drops the shape of a name: its mark becomes 0.
@@ -41,5 +48,14 @@ pub extern "C" fn screens_drop_shape(
 ) -> u32
     ensures { Dropped (passed_mesh x y z t0 t1 t2) (store_of marks.old names.now sx.now sy.now sz.now) name.now result (left_marks marks names sx sy sz) }
 {
-    shape_store::drop_shape(x, y, z, t0, t1, t2, marks, names, sx, sy, sz, name)
+    let mesh = TriangleMeshView {
+        nodes: NodeColumns { x, y, z },
+        panels: PanelColumns { t0, t1, t2 },
+    };
+    let shapes = NodeColumns {
+        x: sx,
+        y: sy,
+        z: sz,
+    };
+    number_of(&shape_store::drop_shape(&mesh, marks, names, &shapes, name))
 }

@@ -5,8 +5,7 @@ use denote.Triple.Both.{Both}
 use Rattle.refusal.specs.Checks.{after}
 use Rattle.tri.specs.Mapping.{Tri}
 use Rattle.panel_points.specs.Points as Points
-use Rattle.refusal.specs.declared.Answer.{Answer}
-use Rattle.coupling.specs.declared.calls.BlockAnswer.{BlockAnswer}
+use Rattle.coupling.specs.Calls.{Answer, BlockAnswer}
 
 -- lent numbers, as passed
 abbrev pub vector : {X : Type 0} → Both (Bor (List Float)) X → List Float

@@ -10,6 +10,7 @@ ghost use Rattle.screens_panels.specs.Screens.{vector, triangle, Valued, WroteBl
 
 use lent_numbers::eighteen;
 use panel_points::triangle;
+use refusal::hand_out;
 
 #[unsafe(no_mangle)]
 pub extern "C" fn screens_triangle_distance_squared(source: &[f64; 9], target: &[f64; 9]) -> f64
@@ -43,6 +44,7 @@ pub extern "C" fn screens_is_far(source: &[f64; 9], target: &[f64; 9]) -> bool
 }
 
 // The geometric coupling; it goes to the lent number, 0 on a refusal, as every value below.
+#[tactic(auto, using(crate::proofs::Lent::valued))]
 #[unsafe(no_mangle)]
 pub extern "C" fn screens_coupling(
     rule: u32,
@@ -57,10 +59,10 @@ pub extern "C" fn screens_coupling(
         triangle(*source),
         triangle(*target),
     );
-    *value = answer.value;
-    answer.refusal
+    hand_out(answer, 0.0, value)
 }
 
+#[tactic(auto, using(crate::proofs::Lent::valued))]
 #[unsafe(no_mangle)]
 pub extern "C" fn screens_coupling_regular(
     rule: u32,
@@ -75,11 +77,11 @@ pub extern "C" fn screens_coupling_regular(
         triangle(*source),
         triangle(*target),
     );
-    *value = answer.value;
-    answer.refusal
+    hand_out(answer, 0.0, value)
 }
 
 // Between corner i of the source and corner j of the target.
+#[tactic(auto, using(crate::proofs::Lent::valued))]
 #[unsafe(no_mangle)]
 pub extern "C" fn screens_mutual_inductance(
     rule: u32,
@@ -98,11 +100,11 @@ pub extern "C" fn screens_mutual_inductance(
         triangle(*target),
         j,
     );
-    *value = answer.value;
-    answer.refusal
+    hand_out(answer, 0.0, value)
 }
 
 // The block of the corners' inductances, row by row.
+#[tactic(auto, using(crate::proofs::Lent::stopped, crate::proofs::Lent::passed))]
 #[unsafe(no_mangle)]
 pub extern "C" fn screens_mutual_inductance_block(
     rule: u32,
@@ -117,12 +119,13 @@ pub extern "C" fn screens_mutual_inductance_block(
         triangle(*source),
         triangle(*target),
     );
-    if answer.refusal != 0 {
-        return answer.refusal;
+    match answer {
+        Ok(values) => {
+            *out = values;
+            0
+        }
+        Err(refusal) => refusal.number(),
     }
-    let values = answer.values;
-    *out = values;
-    0
 }
 
 // A block of nine numbers, row by row, between the values s of the source and t of the target.

@@ -1,21 +1,19 @@
 -- The return on the definitions: nodes that do not differ are where they were, so that a cell outside the rings keeps its contributions and a fresh matrix, renewed, is the named shape's.
 -- Two numbers of the format with the same canonical bits are one number; that lent numbers are of the format is known where a function is entered.
-use mathlib.Core.Path.{◌≡◌, refl, sym, ap, ◌∙◌, subst}
+use mathlib.Core.Path.{◌≡◌, sym, ap, ◌∙◌}
 use mathlib.Core.Logic.{◌↔◌}
 use mathlib.Core.Bool.{Bool, true, false, ◌||◌}
 use mathlib.Core.List.{List, [], ◌∷◌}
-use Prim.Native.Nat.{ℕ, ◌+◌, ◌*◌, ◌-◌, ◌≤◌}
-use native.Mathlib.Nat.{le_refl, le_trans, lt_of_lt_of_le}
-use borrow.Author.Tests.{eqb-true, eq-eqb, not-false, ltb-true, ltb-false}
-use lib.Dec.{T, ltb}
-use lib.ListN.{length, replicate, get_or-eq_default}
-use lib.Ieee.{Float, nan, binary64, fits}
+use Prim.Native.Nat.{ℕ, ◌*◌, ◌-◌, ◌≤◌}
+use native.Mathlib.Nat.{le_refl, lt_of_lt_of_le}
+use borrow.Author.Tests.{eqb-true, eq-eqb, not-false}
+use lib.Dec.{T}
+use lib.ListN.{length, replicate}
+use lib.Ieee.{Float, binary64, fits}
 use Rattle.binary64.specs.Binary64.{at}
 use Rattle.ieee754.specs.Ieee754.{canonical_bits}
 use Rattle.ieee754.proofs.Theorems.{canonical_only}
 use Rattle.lists.specs.Counting.{count_below}
-use Rattle.lists.specs.Stretch.{stretch}
-use Rattle.lists.proofs.Stretches.{stretch_short, stretch_at}
 use Rattle.mesh.specs.Mesh.{Mesh, nnode, node}
 use Rattle.refusal.proofs.Tests.{or_off}
 use Rattle.scatter.specs.Entries.{cell_sum, square}
@@ -23,35 +21,11 @@ use Rattle.scatter.specs.Renewal.{marked, renewed}
 use Rattle.scatter.specs.Flags.{IndicesBelow}
 use Rattle.scatter.specs.Change.{Changed}
 use Rattle.pair_loops.specs.Additions.{Block}
-use Rattle.pair_loops.specs.Ready.{Ready}
 use Rattle.inductance.specs.Matrix.{summed_cell, cell, matrix}
 use Rattle.inductance.proofs.Change.{renewed_by}
 use Rattle.node_ring.specs.Ring.{MarksRing}
 use Rattle.node_ring.proofs.Ring.{outside, ring_alike, ring-cells, ring-total}
-use Rattle.shape_store.specs.Store.{Store, shape_of}
-use Rattle.shape_return.specs.Return.{same_number, differs, changed_ring, nodes_of, MarksDiffering, MarksChanged, ShapeOf, Done}
-
--- every number of a column is one of the format
-abbrev pub Numbers : List Float → Type 0
-Numbers l = (k : ℕ) → T (fits binary64 (at l k))
-
--- those of a mesh's three
-abbrev pub Coordinates : Mesh → Type 0
-Coordinates m = Numbers m.xs × Numbers m.ys × Numbers m.zs
-
--- a stretch of such a column is one too
-numbers_stretch : (l : List Float) (w i : ℕ) → Numbers l → Numbers (stretch l w i)
-numbers_stretch l w i h k = go (ltb k w) refl
-  where
-    go : (b : Bool) → ltb k w ≡ b → T (fits binary64 (at (stretch l w i) k))
-    go true e = rw (stretch_at l w i nan k (ltb-true k w e)) (h (i * w + k))
-    go false e =
-        let past : length (stretch l w i) ≤ k = le_trans (stretch_short l w i) (ltb-false k w e) in
-        rw (get_or-eq_default (stretch l w i) nan past) (unfold fits in tt)
-
-pub shape_numbers : (m : Mesh) (s : Store) (p : ℕ) → Numbers s.xs → Numbers s.ys → Numbers s.zs → Coordinates (shape_of m s p)
-shape_numbers m s p hx hy hz =
-    (numbers_stretch s.xs (nnode m) p hx, numbers_stretch s.ys (nnode m) p hy, numbers_stretch s.zs (nnode m) p hz)
+use Rattle.shape_return.specs.Return.{Coordinates, same_number, differs, changed_ring, nodes_of, MarksDiffering, MarksChanged, ShapeOf, Done}
 
 -- of such numbers those with the same canonical bits are one
 pub same_number_lem : (x y : Float) → T (fits binary64 x) → T (fits binary64 y) → (same_number x y ≡ true) ↔ (x ≡ y)
@@ -95,18 +69,6 @@ module _ (m m₁ : Mesh) (w : ShapeOf m₁ m) where
 
   -- the mesh as written, m', is the shape
   module _ (m' : Mesh) (e : m' ≡ m₁) (old : List Float) (sized : length old ≡ nnode m * nnode m) (marks : List Bool) where
-    pub written_ready : nnode m ≤ length marks → Ready m' old marks
-    written_ready l =
-        let a = w.shape in
-        subst (λ (m₂ : Mesh). Ready m₂ old marks) (sym e)
-        (record {
-          nodes_alike = a.nodes_alike;
-          panels_alike = a.panels_alike;
-          few_panels = a.limits.few_panels;
-          none_missing = a.none_missing;
-          sized = record { small = a.limits.few_nodes; cells = rw w.as_many sized; enough = rw w.as_many l };
-        })
-
     pub restore_done : (cell_of : Mesh → ℕ → ℕ → Float) (new : List Float) (k t c : ℕ)
         → MarksChanged m m₁ (replicate k false) marks
         → new ≡ renewed (marked marks) (cell_of m') (nnode m') old

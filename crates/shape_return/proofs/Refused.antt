@@ -7,8 +7,8 @@ use lib.ListN.{length}
 use lib.Ieee.{Float}
 use Rattle.tri.specs.Quadrature.{quadrature_rule, NoSuchRule}
 use Rattle.tri.specs.declared.quadrature.QuadratureKind.{QuadratureKind}
-use Rattle.tri.specs.declared.quadrature.Rule.{Rule}
-use Rattle.tri.specs.declared.quadrature.Rule.TheVariants.{Known, Unknown}
+use Rattle.tri.specs.Quadrature.{Rule}
+use Rattle.std.specs.Prelude.{Some, None}
 use Rattle.tri.proofs.Rules.{rule_on}
 use Rattle.refusal.specs.Numbers.{no_such_choice}
 use Rattle.refusal.specs.Checks.{first}
@@ -69,17 +69,17 @@ module _ (number : ℕ) (m : Mesh) (s : Store) (w : List ℕ) (old : List Float)
   Claim rule r count m' new =
       ReturnClaim (NoSuchRule number → ⊥) (cell (block_under rule)) (matrix (block_under rule)) (return_refusal rule m s w (length old)) m s w old r count m' new
 
-  known : (kind : QuadratureKind) → return_refusal (Known kind) m s w (length old) ≡ shape_refusal m s w (length old)
+  known : (kind : QuadratureKind) → return_refusal (Some kind) m s w (length old) ≡ shape_refusal m s w (length old)
   unfolding return_refusal shape_refusal first
   known kind = refl
 
-  unknown : no_such_choice ≡ return_refusal Unknown m s w (length old)
+  unknown : no_such_choice ≡ return_refusal None m s w (length old)
   unfolding return_refusal first
   unknown = refl
 
   pub claim_known : (kind : QuadratureKind) (r count : ℕ) (m' : Mesh) (new : List Float)
-      → quadrature_rule number ≡ Known kind
-      → ReturnClaim Unit (cell (block_under (Known kind))) (matrix (block_under (Known kind))) (shape_refusal m s w (length old)) m s w old r count m' new
+      → quadrature_rule number ≡ Some kind
+      → ReturnClaim Unit (cell (block_under (Some kind))) (matrix (block_under (Some kind))) (shape_refusal m s w (length old)) m s w old r count m' new
       → Claim (quadrature_rule number) r count m' new
   claim_known kind r count m' new e c =
       subst (λ (rule : Rule). Claim rule r count m' new) (sym e)
@@ -92,9 +92,9 @@ module _ (number : ℕ) (m : Mesh) (s : Store) (w : List ℕ) (old : List Float)
         demand = λ p. c.demand (record { choice = tt; mesh = p.mesh; sized = p.sized });
       })
 
-  pub claim_unknown : quadrature_rule number ≡ Unknown → Claim (quadrature_rule number) no_such_choice 0 m old
+  pub claim_unknown : quadrature_rule number ≡ None → Claim (quadrature_rule number) no_such_choice 0 m old
   claim_unknown e =
       let none : NoSuchRule number = (rule_on number).0 (rw e) in
-      let f = block_under Unknown in
+      let f = block_under None in
       subst (λ (rule : Rule). Claim rule no_such_choice 0 m old) (sym e)
       (claim_refused (NoSuchRule number → ⊥) (cell f) (matrix f) _ m s w old (λ p k a. absurd (p.choice none)) no_such_choice (λ q. suc-ne-zero 11 q) unknown)

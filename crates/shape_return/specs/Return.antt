@@ -2,14 +2,19 @@
 use Rattle.std.specs.Prelude.{◌≡◌, ◌↔◌, ◌⊎◌, Bool, not, ◌||◌, List, [], ◌∷◌, ◌++◌, ℕ, ◌*◌, ◌<◌, eqb, length, Float}
 use Rattle.std.specs.Borrow.{Bor, MutBor}
 use denote.Triple.Both.{Both}
+use lib.Dec.{T}
+use lib.Ieee.{binary64, fits}
 use Rattle.binary64.specs.Binary64.{at}
 use Rattle.ieee754.specs.Ieee754.{canonical_bits}
 use Rattle.tri.specs.Quadrature.{quadrature_rule, NoSuchRule, is_unknown}
 use Rattle.tri.specs.declared.quadrature.QuadratureKind.{QuadratureKind}
-use Rattle.tri.specs.declared.quadrature.Rule.{Rule}
+use Rattle.tri.specs.Quadrature.{Rule}
 use Rattle.refusal.specs.Numbers.{no_such_choice, output_length, zero_area, unknown_name}
 use Rattle.refusal.specs.Checks.{Check, check, first}
 use Rattle.mesh.specs.Mesh.{Mesh, mesh_of, nnode, mesh_checks, max_nodes, max_panels, left_mesh}
+use Rattle.mesh.specs.declared.columns.NodeColumns.{NodeColumns}
+use Rattle.mesh.specs.declared.columns.PanelColumns.{PanelColumns}
+use Rattle.node_move.specs.Move.{on_panels}
 use Rattle.mesh.specs.Conditions.{ZeroArea, Refused4, Accepted, MeshNumbered}
 use Rattle.coupling.specs.Block.{mutual_inductance_block}
 use Rattle.scatter.specs.Renewal.{marked, renewed}
@@ -116,6 +121,14 @@ lent_screen x y z a b c out = record {
   exit = record { mesh = left_mesh x y z a b c; cells = out.exit.now };
 }
 
+-- the same, the panels as a view
+abbrev pub screen_on : Both (MutBor (List Float)) (MutBor (List Float)) → Both (MutBor (List Float)) (MutBor (List Float)) → Both (MutBor (List Float)) (MutBor (List Float))
+    → PanelColumns → Both (MutBor (List Float)) (MutBor (List Float)) → Both Screen Screen
+screen_on x y z p out = record {
+  entry = record { mesh = on_panels x.entry.now y.entry.now z.entry.now p; cells = out.entry.now };
+  exit = record { mesh = on_panels x.exit.now y.exit.now z.exit.now p; cells = out.exit.now };
+}
+
 -- the claim of the call, for a rule by its number
 abbrev pub ReturnedBy : ℕ → Both Screen Screen → Store → List ℕ → ℕ → ℕ → Type 0
 ReturnedBy number lent s w r count =
@@ -142,6 +155,18 @@ pub record ShapeOf (m₁ m : Mesh) : Type 0 where
 -- the nodes of three columns
 abbrev pub nodes_of : List Float → List Float → List Float → Mesh
 nodes_of x y z = mesh_of x y z [] [] []
+
+-- every number of a column is one of the format
+abbrev pub Numbers : List Float → Type 0
+Numbers l = (k : ℕ) → T (fits binary64 (at l k))
+
+-- those of a mesh's three
+abbrev pub Coordinates : Mesh → Type 0
+Coordinates m = Numbers m.xs × Numbers m.ys × Numbers m.zs
+
+-- a mesh of lent nodes and panels
+abbrev pub on_nodes : NodeColumns → PanelColumns → Mesh
+on_nodes n p = on_panels n.x.now n.y.now n.z.now p
 
 -- the marks of the nodes that differ
 abbrev pub MarksDiffering : Mesh → Mesh → List Bool → Type 0

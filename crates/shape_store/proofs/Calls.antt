@@ -2,12 +2,11 @@
 use mathlib.Core.Path.{◌≡◌, refl, sym, ap, ◌∙◌}
 use mathlib.Core.Bool.{Bool, true, false, not, cond}
 use mathlib.Core.List.{List, [], ◌∷◌, ◌++◌, append_assoc}
-use Prim.Native.Nat.{ℕ, ◌+◌, ◌*◌, ◌<◌, ◌≤◌}
+use Prim.Native.Nat.{ℕ, ◌+◌, ◌<◌, ◌≤◌}
 use native.Mathlib.Omega.{arith}
 use native.Mathlib.Nat.{suc-ne-zero}
 use borrow.Author.Tests.{eqb-false, eq-eqb, ne_eqb}
 use lib.Dec.{eqb}
-use lib.Ieee.{Float}
 use lib.ListN.{length, set, take, drop}
 use lib.Seq.{paste, take-length}
 use Rattle.lists.specs.Putting.{Put}
@@ -124,10 +123,6 @@ module _ (m : Mesh) (s : Store) (w : List ℕ) where
   pub saved_parts : SavedParts m s w (place_for s w) (saved m s w)
   unfolding saved
   saved_parts = record { marks = refl; names = refl; xs = refl; ys = refl; zs = refl }
-
--- numbers put from p · n on are the shape's at place p
-pub column_put : (n p : ℕ) (column numbers new : List Float) → length numbers ≡ n → new ≡ paste column (p * n) numbers (length numbers) → new ≡ column_with column p numbers
-column_put n p column numbers new e h = h ∙ ap (λ (k : ℕ). paste column (p * k) numbers (length numbers)) (sym e)
 
 -- the bytes put are a copy
 pub put_paste : (n : ℕ) {held : List ℕ} {from : ℕ} {bytes left : List ℕ} {to : ℕ} → length bytes ≡ n → Put held from bytes left to → left ≡ paste held from bytes n

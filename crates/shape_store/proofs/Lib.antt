@@ -1,3 +1,4 @@
+pub mod Found
 pub mod Places
 pub mod Calls
 pub mod Shapes

@@ -1,8 +1,10 @@
 -- CR 5's store: eight places for shapes of one mesh, each with a mark, a name of eight bytes and the coordinates of every node, lent as five slices; saving a shape and dropping one. Definitions only.
-use Rattle.std.specs.Prelude.{◌≡◌, Bool, not, ◌&&◌, ◌||◌, cond, List, [], ◌∷◌, ◌++◌, ℕ, ◌+◌, ◌*◌, ◌<◌, ◌≤◌, eqb, length, get_or, set, Float}
+use Rattle.std.specs.Prelude.{◌≡◌, Bool, not, ◌&&◌, ◌||◌, cond, List, [], ◌∷◌, ◌++◌, ℕ, ◌+◌, ◌*◌, ◌<◌, ◌≤◌, eqb, nat_lt, Option, Some, None, length, get_or, set, Float}
 use Rattle.std.proofs.Math.Seq.{paste}
 use Rattle.std.specs.Borrow.{Bor, MutBor}
 use denote.Triple.Both.{Both}
+use Rattle.mesh.specs.declared.columns.NodeColumns.{NodeColumns}
+use Rattle.shape_store.specs.declared.ShapeStore.{ShapeStore}
 use Rattle.refusal.specs.Numbers.{output_length, unknown_name, no_place}
 use Rattle.refusal.specs.Checks.{Check, check, first}
 use Rattle.lists.specs.Columns.{columns_differ, ColumnsDue}
@@ -27,7 +29,14 @@ places = 8
 abbrev pub name_length : ℕ
 name_length = 8
 
--- ---- five lent slices, as a contract names them
+-- ---- a lent store, as a contract names it
+abbrev pub with_shapes : List ℕ → List ℕ → NodeColumns → Store
+with_shapes marks names n = store_of marks names n.x.now n.y.now n.z.now
+
+abbrev pub viewed_store : ShapeStore → Store
+viewed_store s = with_shapes s.marks.now s.names.now s.shapes
+
+-- five lent slices, as the C interface has them
 abbrev pub lent_store : Bor (List ℕ) → Bor (List ℕ) → Bor (List Float) → Bor (List Float) → Bor (List Float) → Store
 lent_store marks names x y z = store_of marks.now names.now x.now y.now z.now
 
@@ -54,6 +63,10 @@ is_held s p = not (eqb (get_or s.marks p 0) 0)
 -- the eight bytes at place p are those of the name w
 unfoldable pub same_name : List ℕ → List ℕ → ℕ → Bool
 same_name names w p = not (some_below (λ k. not (eqb (get_or names (p * name_length + k) 0) (get_or w k 0))) name_length)
+
+-- the place p, if it is one of the eight
+abbrev pub place_below : ℕ → Option ℕ
+place_below p = cond (nat_lt p places) (Some p) None
 
 -- a free place holds no name, whatever its bytes are
 abbrev pub holds_name : Store → List ℕ → ℕ → Bool

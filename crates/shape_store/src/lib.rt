@@ -2,30 +2,57 @@
 // made before anything is written.
 #![tactic(auto)]
 
-ghost use Rattle.std.specs.Prelude.{◌≡◌, [], ◌*◌, ◌<◌, ◌≤◌, length};
-ghost use Rattle.mesh.specs.Mesh.{max_nodes, passed_mesh};
+ghost use Rattle.std.specs.Prelude.{◌≡◌, ◌==◌, [], ◌*◌, ◌<◌, ◌≤◌, length, position};
+ghost use Rattle.refusal.specs.Outcome.{number_of};
+ghost use Rattle.mesh.specs.Mesh.{max_nodes};
+ghost use Rattle.mesh.specs.Columns.{viewed};
 ghost use Rattle.shape_store.specs.Store as Spec;
-ghost use Rattle.shape_store.specs.Store.{store_of, places, name_length, passed_store, left_store, left_marks, Saved, Dropped};
+ghost use Rattle.shape_store.specs.Store.{store_of, viewed_store, with_shapes, places, place_below, name_length, Saved, Dropped};
+
+use mesh::columns::{NodeColumns, TriangleMeshView};
+use refusal::Refusal;
 
 pub const PLACES: usize = 8;
 
 pub const NAME_LENGTH: usize = 8;
 
-// 6: a store that is not eight places of n nodes.
-pub fn store_differs(
-    n: usize,
-    marks: &[u8],
-    names: &[u8],
-    sx: &[f64],
-    sy: &[f64],
-    sz: &[f64],
-) -> bool
-    requires { n ≤ max_nodes }
-    ensures { result ≡ Spec.store_differs n (passed_store marks names sx sy sz) }
-{
-    (marks.len() != PLACES)
-        | ((names.len() != PLACES * NAME_LENGTH)
-            | lists::columns_differ(PLACES * n, sx.len(), sy.len(), sz.len()))
+// A lent store: a mark and a name for each place, and the places' coordinates one behind the other.
+#[derive(Clone, Copy)]
+pub struct ShapeStore<'a> {
+    pub marks: &'a [u8],
+    pub names: &'a [u8],
+    pub shapes: NodeColumns<'a>,
+}
+
+impl<'a> ShapeStore<'a> {
+    // Five lent slices.
+    pub fn lent(
+        marks: &'a [u8],
+        names: &'a [u8],
+        x: &'a [f64],
+        y: &'a [f64],
+        z: &'a [f64],
+    ) -> ShapeStore<'a>
+        ensures { viewed_store result ≡ store_of marks.now names.now x.now y.now z.now }
+    {
+        ShapeStore {
+            marks,
+            names,
+            shapes: NodeColumns { x, y, z },
+        }
+    }
+
+    // 6: a store that is not eight places of n nodes.
+    #[tactic(auto, unfolding(crate::specs::Store::store_differs))]
+    pub fn differs(&self, n: usize) -> bool
+        requires { n ≤ max_nodes }
+        ensures { result ≡ Spec.store_differs n (viewed_store self.now) }
+    {
+        let shapes = &self.shapes;
+        (self.marks.len() != PLACES)
+            | ((self.names.len() != PLACES * NAME_LENGTH)
+                | lists::columns_differ(PLACES * n, shapes.x.len(), shapes.y.len(), shapes.z.len()))
+    }
 }
 
 // The name at place p is that name.
@@ -33,82 +60,51 @@ fn same_name(names: &[u8], name: &[u8; 8], p: usize) -> bool
     requires { (length names.now ≡ places * name_length) × (p < places) }
     ensures { result ≡ Spec.same_name names.now name.now p }
 {
-    let mut k = 0;
-    while k < NAME_LENGTH {
-        if names[p * NAME_LENGTH + k] != name[k] {
-            return false;
-        }
-        k += 1;
-    }
-    true
+    let start = p * NAME_LENGTH;
+    names[start..start + NAME_LENGTH] == name[..]
 }
 
-// The first place that holds the name, 8 if none does.
-pub fn find_name(marks: &[u8], names: &[u8], name: &[u8; 8]) -> usize
+// The first place that holds the name.
+pub fn find_name(marks: &[u8], names: &[u8], name: &[u8; 8]) -> Option<usize>
     requires { (length marks.now ≡ places) × (length names.now ≡ places * name_length) }
-    ensures { result ≡ Spec.place_of (store_of marks.now names.now [] [] []) name.now }
+    ensures { result ≡ place_below (Spec.place_of (store_of marks.now names.now [] [] []) name.now) }
 {
-    let mut p = 0;
-    while p < PLACES {
+    for p in 0..PLACES {
         if (marks[p] != 0) & same_name(names, name, p) {
-            return p;
+            return Some(p);
         }
-        p += 1;
     }
-    PLACES
+    None
 }
 
-// The first free place, 8 if there is none.
-fn find_free(marks: &[u8]) -> usize
-    requires { length marks.now ≡ places }
-    ensures { result ≡ Spec.free_place (store_of marks.now [] [] [] []) }
+// The first free place.
+fn find_free(marks: &[u8]) -> Option<usize>
+    ensures { result ≡ position (λ mark. mark == 0) marks.now }
 {
-    let mut p = 0;
-    while p < PLACES {
-        if marks[p] == 0 {
-            return p;
-        }
-        p += 1;
-    }
-    PLACES
+    marks.iter().position(|mark| *mark == 0)
 }
 
-// Where a shape of that name is saved, 8 if there is no place.
-fn place_for(marks: &[u8], names: &[u8], name: &[u8; 8]) -> usize
+// Where a shape of that name is saved.
+fn place_for(marks: &[u8], names: &[u8], name: &[u8; 8]) -> Option<usize>
     requires { (length marks.now ≡ places) × (length names.now ≡ places * name_length) }
-    ensures { result ≡ Spec.place_for (store_of marks.now names.now [] [] []) name.now }
+    ensures { result ≡ place_below (Spec.place_for (store_of marks.now names.now [] [] []) name.now) }
 {
-    let found = find_name(marks, names, name);
-    if found == PLACES {
-        return find_free(marks);
+    match find_name(marks, names, name) {
+        Some(p) => Some(p),
+        None => find_free(marks),
     }
-    found
 }
 
-// The number of mesh and store, before the name is looked for.
-fn store_refusal(
-    x: &[f64],
-    y: &[f64],
-    z: &[f64],
-    t0: &[usize],
-    t1: &[usize],
-    t2: &[usize],
-    marks: &[u8],
-    names: &[u8],
-    sx: &[f64],
-    sy: &[f64],
-    sz: &[f64],
-) -> u32
-    ensures { result ≡ Spec.store_refusal (passed_mesh x y z t0 t1 t2) (passed_store marks names sx sy sz) }
+// The tests of mesh and store, before the name is looked for.
+#[tactic(auto, using(mesh::proofs::Refusals::refused_by, mesh::proofs::Refusals::done_passed), unfolding(crate::specs::Store::store_refusal, refusal::specs::Checks::first))]
+fn check_store(mesh: &TriangleMeshView, store: &ShapeStore) -> Result<(), Refusal>
+    ensures { number_of result ≡ Spec.store_refusal (viewed mesh.now) (viewed_store store.now) }
 {
-    let refusal = mesh::mesh_refusal(x, y, z, t0, t1, t2);
-    if refusal != 0 {
-        return refusal;
+    mesh::check_mesh(mesh)?;
+    if store.differs(mesh.nnode()) {
+        return Err(Refusal::Output);
     }
-    if store_differs(x.len(), marks, names, sx, sy, sz) {
-        return refusal::OUTPUT_LENGTH;
-    }
-    0
+    Ok(())
 }
 
 // A new name takes its place with the mark 1; a held one keeps its mark.
@@ -117,7 +113,7 @@ fn name_place(marks: &mut [u8], names: &mut [u8], name: &[u8; 8], p: usize)
     ensures marks_value { marks.new ≡ Spec.marks_with (store_of marks.old names.old [] [] []) name.now p }
     ensures names_value { names.new ≡ Spec.names_with (store_of marks.old names.old [] [] []) name.now p }
 {
-    let is_new = find_name(marks, names, name) == PLACES;
+    let is_new = find_name(marks, names, name).is_none();
     if is_new {
         lists::put(names, p * NAME_LENGTH, name);
         marks[p] = 1;
@@ -125,81 +121,62 @@ fn name_place(marks: &mut [u8], names: &mut [u8], name: &[u8; 8], p: usize)
 }
 
 // The coordinates of a shape at place p.
-fn save_coordinates(
-    x: &[f64],
-    y: &[f64],
-    z: &[f64],
-    sx: &mut [f64],
-    sy: &mut [f64],
-    sz: &mut [f64],
-    p: usize,
-)
-    requires { Spec.ColumnsReady (store_of [] [] sx.old sy.old sz.old) x.now y.now z.now p }
-    ensures sx_value { sx.new ≡ Spec.column_with sx.old p x.now }
-    ensures sy_value { sy.new ≡ Spec.column_with sy.old p y.now }
-    ensures sz_value { sz.new ≡ Spec.column_with sz.old p z.now }
+fn save_coordinates(nodes: &NodeColumns, sx: &mut [f64], sy: &mut [f64], sz: &mut [f64], p: usize)
+    requires { Spec.ColumnsReady (store_of [] [] sx.old sy.old sz.old) nodes.now.x.now nodes.now.y.now nodes.now.z.now p }
+    ensures sx_value { sx.new ≡ Spec.column_with sx.old p nodes.now.x.now }
+    ensures sy_value { sy.new ≡ Spec.column_with sy.old p nodes.now.y.now }
+    ensures sz_value { sz.new ≡ Spec.column_with sz.old p nodes.now.z.now }
 {
-    let start = p * x.len();
-    lists::put_numbers(sx, start, x);
-    lists::put_numbers(sy, start, y);
-    lists::put_numbers(sz, start, z);
+    let start = p * nodes.x.len();
+    lists::put(sx, start, nodes.x);
+    lists::put(sy, start, nodes.y);
+    lists::put(sz, start, nodes.z);
 }
 
-// Saves the mesh's shape under a name: over the shape of that name, or at the first free place.
+// Saves the mesh's shape under a name: over the shape of that name, or at the first free place. The store is lent
+// as five slices: a struct of five `&mut` would be no plainer, since each function would have to promise that it
+// leaves the same references there.
 pub fn save_shape(
-    x: &[f64],
-    y: &[f64],
-    z: &[f64],
-    t0: &[usize],
-    t1: &[usize],
-    t2: &[usize],
+    mesh: &TriangleMeshView,
     marks: &mut [u8],
     names: &mut [u8],
     sx: &mut [f64],
     sy: &mut [f64],
     sz: &mut [f64],
     name: &[u8; 8],
-) -> u32
-    ensures { Saved (passed_mesh x y z t0 t1 t2) (store_of marks.old names.old sx.old sy.old sz.old) name.now result (left_store marks names sx sy sz) }
+) -> Result<(), Refusal>
+    ensures { Saved (viewed mesh.now) (store_of marks.old names.old sx.old sy.old sz.old) name.now (number_of result)
+        (store_of marks.new names.new sx.new sy.new sz.new) }
 {
-    let refusal = store_refusal(x, y, z, t0, t1, t2, marks, names, sx, sy, sz);
-    if refusal != 0 {
-        return refusal;
-    }
-    let p = place_for(marks, names, name);
-    if p == PLACES {
-        return refusal::NO_PLACE;
-    }
-    save_coordinates(x, y, z, sx, sy, sz, p);
+    let store = ShapeStore::lent(marks, names, sx, sy, sz);
+    check_store(mesh, &store)?;
+    let Some(p) = place_for(marks, names, name) else {
+        return Err(Refusal::NoPlace);
+    };
+    save_coordinates(&mesh.nodes, sx, sy, sz, p);
     name_place(marks, names, name, p);
-    0
+    Ok(())
 }
 
 // Drops the shape of a name: its place is free then.
 pub fn drop_shape(
-    x: &[f64],
-    y: &[f64],
-    z: &[f64],
-    t0: &[usize],
-    t1: &[usize],
-    t2: &[usize],
+    mesh: &TriangleMeshView,
     marks: &mut [u8],
     names: &[u8],
-    sx: &[f64],
-    sy: &[f64],
-    sz: &[f64],
+    shapes: &NodeColumns,
     name: &[u8; 8],
-) -> u32
-    ensures { Dropped (passed_mesh x y z t0 t1 t2) (store_of marks.old names.now sx.now sy.now sz.now) name.now result (left_marks marks names sx sy sz) }
+) -> Result<(), Refusal>
+    ensures { Dropped (viewed mesh.now) (with_shapes marks.old names.now shapes.now) name.now (number_of result) (with_shapes marks.new names.now shapes.now) }
 {
-    let refusal = store_refusal(x, y, z, t0, t1, t2, marks, names, sx, sy, sz);
-    if refusal != 0 {
-        return refusal;
-    }
-    let p = find_name(marks, names, name);
-    if p == PLACES {
-        return refusal::UNKNOWN_NAME;
-    }
+    let store = ShapeStore {
+        marks,
+        names,
+        shapes: *shapes,
+    };
+    check_store(mesh, &store)?;
+    let Some(p) = find_name(marks, names, name) else {
+        return Err(Refusal::UnknownName);
+    };
     marks[p] = 0;
-    0
+    Ok(())
 }

@@ -31,9 +31,6 @@ joined e o n p d h = omega arith
 apart : (e o n p : ℕ) → o ≤ 1 → e < 2 ^ 64 → e + n % 2 ^ 64 ≡ p % 2 ^ 64 + o * 2 ^ 64 → (p / 2 ^ 64 ≡ n / 2 ^ 64 + o → ⊥) → n ≤ p → n + 2 ^ 64 ≤ p
 apart e o n p s u d h l = omega arith
 
-room : (m o p : ℕ) → m + 2 ≤ 2 ^ 54 → o ≤ 1 → p / 2 ^ 64 ≡ m / 4096 + o → p < 2 ^ 107
-room m o p h s e = omega arith
-
 many_times : (n r p : ℕ) → n ≤ r * 2 ^ 52 → r * 2 ^ 54 ≤ p → n + 2 * r ≤ p
 many_times n r p a b = omega arith
 
@@ -72,22 +69,6 @@ module _ (m r : ℕ) (scaled-m : Scaled m) where
       let l : m ≤ r = omega arith in
       let k : 2 ^ 54 ≤ r + 1 = omega arith in
       many_times n r p (mul-le-mul l (le_refl (2 ^ 52))) (mul-le-mul (le_refl r) k)
-
-  pub small : (o : ℕ) → o ≤ 1 → p / 2 ^ 64 ≡ m / 4096 + o → r < 2 ^ 54
-  small o s h = go (ltb r (2 ^ 54)) refl
-    where
-      not_both : (q : ℕ) → 2 ^ 54 * 2 ^ 54 ≤ q → q < 2 ^ 107 → ⊥
-      not_both q a b = omega arith
-
-      no : 2 ^ 54 ≤ r → ⊥
-      no l =
-          let k : 2 ^ 54 ≤ r + 1 = omega arith in
-          let t : 2 ^ 54 * 2 ^ 54 ≤ p = mul-le-mul l k in
-          not_both p t (room m o p scaled-m.high s h)
-
-      go : (t : Bool) → ltb r (2 ^ 54) ≡ t → r < 2 ^ 54
-      go true q = ltb-true r (2 ^ 54) q
-      go false q = absurd (no (ltb-false r (2 ^ 54) q))
 
   pub far_over : (e o : ℕ) → o ≤ 1 → e < 2 ^ 64 → e + m * 2 ^ 52 % 2 ^ 64 ≡ p % 2 ^ 64 + o * 2 ^ 64 → (p / 2 ^ 64 ≡ m / 4096 + o → ⊥) → false ≡ is_near_root (m * 2 ^ 52) r
   far_over e o s u d h = go (ltb p n) refl
@@ -150,9 +131,9 @@ exponent b = ((b / 2 ^ 52 + bias) / 2 - 1) * 2 ^ 52
 abbrev scaled_digits : ℕ → ℕ
 scaled_digits b = (2 ^ 52 + b % 2 ^ 52) * 2 ^ ((b / 2 ^ 52 + bias) % 2)
 
-pub below-exponent : (b c : ℕ) → c < ((b / 2 ^ 52 + bias) / 2 - 1) * 2 ^ 52 → false ≡ is_root b c
+pub below_exponent : (b c : ℕ) → c < ((b / 2 ^ 52 + bias) / 2 - 1) * 2 ^ 52 → false ≡ is_root b c
 unfolding is_root
-below-exponent b c h = rw (lt-leb (exponent b) c h)
+below_exponent b c h = rw (lt-leb (exponent b) c h)
 
 pub from-exponent : (b c : ℕ) → ((b / 2 ^ 52 + bias) / 2 - 1) * 2 ^ 52 ≤ c
     → is_near_root ((2 ^ 52 + b % 2 ^ 52) * 2 ^ ((b / 2 ^ 52 + bias) % 2) * 2 ^ 52) (c - ((b / 2 ^ 52 + bias) / 2 - 1) * 2 ^ 52) ≡ is_root b c

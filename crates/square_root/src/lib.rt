@@ -15,49 +15,13 @@ use binary64::{INFINITY_BITS, LEADING_BIT, SIGN_BIT};
 // What a root's place has beyond half of its square's: (1074 - 2 * 52) / 2, since both count from 2 ^ -1074.
 const ROOT_PLACE: u64 = 485;
 
-// The digits of a number above and below 2^52.
-#[derive(Clone, Copy)]
-pub struct Split {
-    pub high: u64,
-    pub low: u64,
-}
-
-// A difference of words, modulo 2^64, and the 1 that it takes from the next word.
-#[derive(Clone, Copy)]
-pub struct Difference {
-    pub word: u64,
-    pub borrow: u64,
-}
-
-// q * (q + 1), for q up to 2^53.
-fn pronic(q: u64) -> Split
+// The digits of q * (q + 1) above 2^52, for q up to 2^53.
+fn high_pronic(q: u64) -> u64
     requires { q ≤ 2 ^ precision }
-    ensures high_value { result.high ≡ q * (q + 1) / 2 ^ 52 }
-    ensures low_value { result.low ≡ q * (q + 1) % 2 ^ 52 }
+    ensures { result ≡ q * (q + 1) / 2 ^ 52 }
 {
-    let high = binary64::high_product(q, q + 1);
     let low = binary64::low_product(q, q + 1);
-    Split {
-        high: high * 4096 + (low >> 52),
-        low: low % LEADING_BIT,
-    }
-}
-
-fn subtract(a: u64, b: u64) -> Difference
-    ensures { (result.word + b ≡ a + result.borrow * 2 ^ 64) × (result.borrow ≤ 1) × (result.word < 2 ^ 64) }
-{
-    let word = std::num::wrapping_sub_u64(a, b);
-    if a < b {
-        Difference {
-            word: word,
-            borrow: 1,
-        }
-    } else {
-        Difference {
-            word: word,
-            borrow: 0,
-        }
-    }
+    binary64::high_product(q, q + 1) * 4096 + (low >> 52)
 }
 
 // Whether r is the whole number nearest to the root of m * 2^52: r * (r + 1) exceeds m * 2^52 by less
@@ -67,15 +31,16 @@ fn is_near_root(m: u64, r: u64) -> bool
     requires r_bound { r + 1 < 2 ^ 64 }
     ensures { result ≡ Estimate.is_near_root (m * 2 ^ 52) r }
 {
-    let excess = subtract(binary64::low_product(r, r + 1), m << 52);
-    if binary64::high_product(r, r + 1) != m / 4096 + excess.borrow {
+    let (excess, borrow) = binary64::low_product(r, r + 1).overflowing_sub(m << 52);
+    if binary64::high_product(r, r + 1) != m / 4096 + u64::from(borrow) {
         return false;
     }
-    excess.word < 2 * r
+    excess < 2 * r
 }
 
 // Whether c is the pattern of the root of a normal number's pattern b. c less the exponent of the root
 // has the root's digits only if c has that exponent.
+#[tactic(auto, using(crate::proofs::Test::below_exponent))]
 fn is_root(b: u64, c: u64) -> bool
     requires { (2 ^ trailing ≤ b) × (b < infinity_bits) }
     ensures { result ≡ Estimate.is_root b c }
@@ -90,6 +55,7 @@ fn is_root(b: u64, c: u64) -> bool
 }
 
 // Whether g is the root of the value of a normal number's pattern b.
+#[tactic(auto, using(binary64::proofs::Pattern::self_equal), unfolding(crate::specs::Estimate::passes))]
 fn passes(b: u64, g: f64) -> bool
     requires { (2 ^ trailing ≤ b) × (b < infinity_bits) }
     ensures value { result ≡ Estimate.passes b g }
@@ -103,6 +69,7 @@ fn passes(b: u64, g: f64) -> bool
 
 // Nearly k / sqrt(x), for the x of the pattern b, where k is the cube root of 1/2: one of Newton's
 // steps.
+#[tactic(auto, using(binary64::proofs::Pattern::no_nan), unfolding(crate::specs::Estimate::inverse_root))]
 fn inverse_root(b: u64) -> f64
     requires { b ≤ infinity_bits }
     ensures { result ≡ Estimate.inverse_root b }
@@ -114,6 +81,7 @@ fn inverse_root(b: u64) -> f64
 
 // p, nearly the root of the pattern b's value, to 26 digits, whose square is exact. The sum's digits
 // end there.
+#[tactic(auto, using(binary64::proofs::Pattern::no_nan), unfolding(crate::specs::Estimate::leading_digits))]
 fn leading_digits(b: u64, p: f64) -> f64
     requires { b ≤ infinity_bits }
     ensures { result ≡ Estimate.leading_digits b p }
@@ -123,6 +91,7 @@ fn leading_digits(b: u64, p: f64) -> f64
 }
 
 // s moved by (x - s * s) / (2 * s), to the second order. y is nearly 1 / sqrt(x).
+#[tactic(auto, unfolding(crate::specs::Estimate::corrected))]
 fn corrected(x: f64, y: f64, s: f64) -> f64
     ensures { result ≡ Estimate.corrected x y s }
 {
@@ -132,6 +101,7 @@ fn corrected(x: f64, y: f64, s: f64) -> f64
 
 // Nearly the root of x, and nearly always the nearest float. The second of Newton's steps has no
 // factor at x * y * y, because k is what it is.
+#[tactic(auto, using(binary64::proofs::Pattern::no_nan), unfolding(crate::specs::Estimate::estimate))]
 fn estimate(b: u64) -> f64
     requires { b ≤ infinity_bits }
     ensures { result ≡ Estimate.estimate b }
@@ -145,6 +115,7 @@ fn estimate(b: u64) -> f64
 
 // The whole number nearest to the root of m * 2^52, for any m: it is from r on and below r + w, and
 // each of 52 turns halves w, from 2^52 down to 1.
+#[tactic(auto, using(crate::proofs::Halving::start))]
 fn near_root(m: u64) -> u64
     requires { Scaled m }
     ensures digits { Digits result }
@@ -152,9 +123,9 @@ fn near_root(m: u64) -> u64
 {
     let mut r = LEADING_BIT;
     let mut w = LEADING_BIT;
-    for i in 0..52usize {
+    for _ in 0..52usize {
         w = w / 2;
-        if pronic(r + w - 1).high < m {
+        if high_pronic(r + w - 1) < m {
             r = r + w;
         }
     }
@@ -176,6 +147,7 @@ fn exact_root_bits(b: u64) -> u64
 
 // The root of x, digit by digit: a NaN for a NaN and for what is below zero, and x itself for a zero
 // and for the positive infinity.
+#[tactic(auto, using(binary64::proofs::Pattern::self_equal, binary64::proofs::Pattern::no_nan))]
 fn exact_root(x: f64) -> f64
     ensures { result ≡ Spec.sqrt x }
 {
@@ -199,6 +171,7 @@ fn exact_root(x: f64) -> f64
 }
 
 // The root of x: the estimate for a normal number, if it passes the test.
+#[tactic(auto, using(binary64::proofs::Pattern::self_equal))]
 pub fn sqrt(x: f64) -> f64
     ensures { result ≡ Spec.sqrt x }
 {
@@ -220,6 +193,7 @@ pub fn sqrt(x: f64) -> f64
 // ---- many roots: the estimates in one loop without a branch, and then the tests
 
 // The pattern of x without its sign, that of 1 for a NaN.
+#[tactic(auto, using(binary64::proofs::Pattern::self_equal), unfolding(crate::specs::Estimate::magnitude_or_one))]
 fn magnitude_or_one(x: f64) -> u64
     ensures value { result ≡ Estimate.magnitude_or_one x }
     ensures upper_bound { result ≤ infinity_bits }
@@ -231,6 +205,7 @@ fn magnitude_or_one(x: f64) -> u64
 }
 
 // Nearly the root of a normal number x, and some number for any other.
+#[tactic(auto, unfolding(crate::specs::Estimate::root_estimate))]
 pub fn root_estimate(x: f64) -> f64
     ensures { result ≡ Estimate.root_estimate x }
 {
@@ -238,6 +213,7 @@ pub fn root_estimate(x: f64) -> f64
 }
 
 // The root of x, whatever g is; sooner if g is the root of a normal number.
+#[tactic(auto, using(binary64::proofs::Pattern::self_equal))]
 pub fn checked(x: f64, g: f64) -> f64
     ensures { result ≡ Spec.sqrt x }
 {

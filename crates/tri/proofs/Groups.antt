@@ -28,7 +28,7 @@ all_placed Dunavant3 = refl
 all_placed Dunavant4 = refl
 all_placed Dunavant5 = refl
 
-pub row-placed : (kind : QuadratureKind) (k : ℕ) → k < quadrature_count kind → quadrature_row kind k ≡ placed (first_place kind + k)
-row-placed kind k l =
+pub row_placed : (kind : QuadratureKind) (k : ℕ) → k < quadrature_count kind → quadrature_row kind k ≡ placed (first_place kind + k)
+row_placed kind k l =
     ap (λ (table : List (List Float)). get_or table k []) (all_placed kind)
     ∙ tabulate_get [] (quadrature_count kind) (λ (i : ℕ). placed (first_place kind + i)) k l

@@ -3,8 +3,7 @@ use Rattle.std.specs.Prelude.{ℕ, ◌<◌, ◌≡◌, ◌⊎◌, Bool, true, fa
 use Rattle.binary64.specs.Binary64.{◌⊘◌, bits, one, two, three, six}
 use Rattle.tri.specs.declared.quadrature.QuadratureKind.{QuadratureKind}
 use Rattle.tri.specs.declared.quadrature.QuadratureKind.TheVariants.{Dunavant1, Dunavant2, Dunavant3, Dunavant4, Dunavant5}
-use Rattle.tri.specs.declared.quadrature.Rule.{Rule}
-use Rattle.tri.specs.declared.quadrature.Rule.TheVariants.{Known, Unknown}
+use Rattle.std.specs.Prelude.{Option, Some, None}
 
 -- ---- the tables' numbers
 abbrev forty_eight : Float
@@ -81,15 +80,19 @@ max_points = 7
 abbrev pub quadrature_row : QuadratureKind → ℕ → List Float
 quadrature_row kind k = get_or (quadrature_points kind) k []
 
+-- what a rule's number stands for, if anything
+abbrev pub Rule : Type 0
+Rule = Option QuadratureKind
+
 -- the rule of document 01's number; any number but 1 to 5 is refused with 12
 unfoldable pub quadrature_rule : ℕ → Rule
 quadrature_rule number =
-    cond (eqb number 1) (Known Dunavant1)
-    (cond (eqb number 2) (Known Dunavant2)
-    (cond (eqb number 3) (Known Dunavant3)
-    (cond (eqb number 4) (Known Dunavant4)
-    (cond (eqb number 5) (Known Dunavant5)
-    Unknown))))
+    cond (eqb number 1) (Some Dunavant1)
+    (cond (eqb number 2) (Some Dunavant2)
+    (cond (eqb number 3) (Some Dunavant3)
+    (cond (eqb number 4) (Some Dunavant4)
+    (cond (eqb number 5) (Some Dunavant5)
+    None))))
 
 -- a number that is no rule's
 abbrev pub NoSuchRule : ℕ → Type 0
@@ -97,5 +100,5 @@ NoSuchRule number = (number ≡ 0) ⊎ (5 < number)
 
 -- 12
 abbrev pub is_unknown : Rule → Bool
-is_unknown (Known kind) = false
-is_unknown Unknown = true
+is_unknown (Some kind) = false
+is_unknown None = true

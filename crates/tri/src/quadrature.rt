@@ -3,7 +3,7 @@ ghost use Rattle.std.specs.Prelude.{◌≡◌, ◌<◌};
 ghost use Rattle.tri.specs.Quadrature as Spec;
 ghost use Rattle.tri.specs.Groups as Groups;
 
-#[derive(Clone, Copy)]
+#[derive(Clone, Copy, PartialEq, Eq)]
 pub enum QuadratureKind {
     Dunavant1,
     Dunavant2,
@@ -12,30 +12,25 @@ pub enum QuadratureKind {
     Dunavant5,
 }
 
-// What a rule's number stands for.
-#[derive(Clone, Copy)]
-pub enum Rule {
-    Known(QuadratureKind),
-    Unknown,
-}
-
 // The rule of document 01's number, 1 to 5.
-pub fn quadrature_rule(number: u32) -> Rule
+#[tactic(auto, unfolding(crate::specs::Quadrature::quadrature_rule))]
+pub fn quadrature_rule(number: u32) -> Option<QuadratureKind>
     ensures { result ≡ Spec.quadrature_rule number }
 {
     match number {
-        1 => Rule::Known(QuadratureKind::Dunavant1),
-        2 => Rule::Known(QuadratureKind::Dunavant2),
-        3 => Rule::Known(QuadratureKind::Dunavant3),
-        4 => Rule::Known(QuadratureKind::Dunavant4),
-        5 => Rule::Known(QuadratureKind::Dunavant5),
-        _ => Rule::Unknown,
+        1 => Some(QuadratureKind::Dunavant1),
+        2 => Some(QuadratureKind::Dunavant2),
+        3 => Some(QuadratureKind::Dunavant3),
+        4 => Some(QuadratureKind::Dunavant4),
+        5 => Some(QuadratureKind::Dunavant5),
+        _ => None,
     }
 }
 
 // The most points that a rule has.
 pub const MAX_POINTS: usize = 7;
 
+#[tactic(auto, unfolding(crate::specs::Quadrature::quadrature_points, crate::specs::Quadrature::dunavant4, crate::specs::Quadrature::dunavant5))]
 pub fn quadrature_count(kind: QuadratureKind) -> usize
     ensures { result ≡ Spec.quadrature_count kind }
 {
@@ -51,6 +46,7 @@ pub fn quadrature_count(kind: QuadratureKind) -> usize
 // A weight and two numbers, of which the three rows of a group are made: the second number belongs to the first corner, then to the
 // second, then to the third. A row that stands alone is the last of a group whose numbers are one. This is a match and not a constant,
 // which the compiler would lay out on the stack at each use.
+#[tactic(auto, unfolding(crate::specs::Groups::groups, crate::specs::Quadrature::quadrature_points, crate::specs::Quadrature::dunavant4, crate::specs::Quadrature::dunavant5))]
 fn group(index: usize) -> [f64; 3]
     requires { index < Groups.group_count }
     ensures { result ≡ Groups.group index }
@@ -69,6 +65,7 @@ fn group(index: usize) -> [f64; 3]
 }
 
 // The place of a rule's first row among the rows of all groups, three a group.
+#[tactic(auto, unfolding(crate::specs::Groups::first_place))]
 fn first_place(kind: QuadratureKind) -> usize
     ensures { result ≡ Groups.first_place kind }
 {
@@ -82,6 +79,7 @@ fn first_place(kind: QuadratureKind) -> usize
 }
 
 // Row k of the rule's table.
+#[tactic(auto, using(crate::proofs::Groups::in_groups, crate::proofs::Groups::row_placed), unfolding(crate::specs::Groups::turned, crate::specs::Groups::groups))]
 pub fn quadrature_row(kind: QuadratureKind, k: usize) -> [f64; 3]
     requires { k < Spec.quadrature_count kind }
     ensures { result ≡ Spec.quadrature_row kind k }

@@ -4,6 +4,7 @@ ghost use Rattle.std.specs.Prelude.{◌≡◌};
 ghost use Rattle.tri.specs.Tri3 as Spec;
 
 // Closest point of the triangle t to obs.
+#[tactic(auto, unfolding(crate::specs::Tri3::closest_point))]
 pub fn closest_point(obs: [f64; 3], t: [[f64; 3]; 3]) -> [f64; 3]
     ensures { result ≡ Spec.closest_point obs t }
 {
@@ -19,6 +20,7 @@ pub fn closest_point(obs: [f64; 3], t: [[f64; 3]; 3]) -> [f64; 3]
 }
 
 // Corner 1, or the edge from corner 0 to corner 1.
+#[tactic(auto, unfolding(crate::specs::Tri3::exits_from_second))]
 fn exits_from_second(
     obs: [f64; 3],
     t: [[f64; 3]; 3],
@@ -43,6 +45,7 @@ fn exits_from_second(
 }
 
 // Corner 2, or the edge from corner 0 to corner 2.
+#[tactic(auto, unfolding(crate::specs::Tri3::exits_from_fourth))]
 fn exits_from_fourth(
     obs: [f64; 3],
     t: [[f64; 3]; 3],
@@ -71,6 +74,7 @@ fn exits_from_fourth(
 }
 
 // The edge from corner 1 to corner 2, or inside; d43 is d4 - d3, d56 is d5 - d6.
+#[tactic(auto, unfolding(crate::specs::Tri3::exits_from_sixth))]
 fn exits_from_sixth(
     t: [[f64; 3]; 3],
     ab: [f64; 3],

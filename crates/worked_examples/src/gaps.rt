@@ -1,5 +1,5 @@
 // How far ln, asinh and atan2 are from a table of values, in units in the last place.
-ghost use Rattle.std.specs.Prelude.{◌≡◌};
+ghost use Rattle.std.specs.Prelude.{◌≡◌, Float};
 ghost use Rattle.worked_examples.specs.Gaps as Spec;
 
 use ieee754::canonical_bits;
@@ -23,40 +23,26 @@ fn gap(x: f64, y: f64) -> u64
     if a < b { b - a } else { a - b }
 }
 
-fn worse(a: u64, b: u64) -> u64
-    ensures { result ≡ Spec.worse a b }
+// One row of a table: two arguments and the value, held to a function's that computes f.
+fn row_gap<F: Fn(f64, f64) -> f64>(function: &F, row: &[f64; 3]) -> u64
+    ghost f: { Float → Float → Float }
+    requires callable { F.IsAlwaysCallable function.now }
+    requires computes { Spec.Computes (F.post function.now) f }
+    ensures { result ≡ Spec.row_gap f row.now }
 {
-    if a < b { b } else { a }
+    gap(function(row[0], row[1]), row[2])
 }
 
-// ln, asinh or atan2 for 0, 1 and 2; the first two leave b alone.
-fn elementary_of(which: u32, a: f64, b: f64) -> f64
-    ensures { result ≡ Spec.elementary_of which a b }
+// The worst gap of a table.
+pub fn worst<F: Fn(f64, f64) -> f64>(function: F, table: &[[f64; 3]; 24]) -> u64
+    ghost f: { Float → Float → Float }
+    requires callable { F.IsAlwaysCallable function }
+    requires computes { Spec.Computes (F.post function) f }
+    ensures { result ≡ Spec.worst f table.now 24 }
 {
-    if which == 0 {
-        return elementary::ln(a);
+    let mut worst = 0;
+    for k in 0..24 {
+        worst = row_gap(&function, &table[k]).max(worst);
     }
-    if which == 1 {
-        return elementary::asinh(a);
-    }
-    elementary::atan2(a, b)
-}
-
-// One row of a table: two arguments and the value.
-fn row_gap(which: u32, row: [f64; 3]) -> u64
-    ensures { result ≡ Spec.row_gap which row }
-{
-    gap(elementary_of(which, row[0], row[1]), row[2])
-}
-
-pub fn worst(which: u32, table: [[f64; 3]; 24]) -> u64
-    ensures { result ≡ Spec.worst which table 24 }
-{
-    let mut w = 0;
-    let mut k = 0;
-    while k < 24 {
-        w = worse(w, row_gap(which, table[k]));
-        k += 1;
-    }
-    w
+    worst
 }

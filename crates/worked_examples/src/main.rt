@@ -84,15 +84,15 @@ fn maps() {
 fn elementary_functions() {
     number_line(
         b"ln, units in the last place, at most 2",
-        gaps::worst(0, table::LN),
+        gaps::worst(|a, _| elementary::ln(a), &table::LN),
     );
     number_line(
         b"asinh, the same                       ",
-        gaps::worst(1, table::ASINH),
+        gaps::worst(|a, _| elementary::asinh(a), &table::ASINH),
     );
     number_line(
         b"atan2, the same                       ",
-        gaps::worst(2, table::ATAN2),
+        gaps::worst(elementary::atan2, &table::ATAN2),
     );
 }
 

@@ -1,13 +1,33 @@
 // The lines of document 01's bench sheet, worked out by the library.
 ghost use Rattle.std.specs.Prelude.{◌≡◌, [], get_or, pos};
 ghost use Rattle.binary64.specs.Binary64.{plus_zero};
-ghost use Rattle.mesh.specs.Mesh.{mesh_refusal, max_nodes, max_panels};
+ghost use Rattle.mesh.specs.Mesh.{mesh_of, mesh_refusal, max_nodes, max_panels};
+ghost use Rattle.mesh.specs.Columns.{viewed};
 ghost use Rattle.panel_distance.specs.Bisection.{longest_edge, longest_edge_bisection};
 ghost use Rattle.coupling.specs.Coupling.{is_far};
 ghost use Rattle.linkage.specs.Energy.{inductive_energy};
 ghost use Rattle.linkage.specs.Flux.{flux_linkage, interaction_energy, map_refusal};
 ghost use Rattle.display.specs.Display as Display;
 ghost use Rattle.worked_examples.specs.BenchSheet.{thin, raised, unit, sheet_map, sheet_coefficients, sheet_values, identity, nodal_values, inductance};
+
+use mesh::columns::{NodeColumns, PanelColumns, TriangleMeshView};
+
+// Six lent slices as a mesh.
+fn lent<'a>(
+    x: &'a [f64],
+    y: &'a [f64],
+    z: &'a [f64],
+    t0: &'a [usize],
+    t1: &'a [usize],
+    t2: &'a [usize],
+) -> TriangleMeshView<'a>
+    ensures { viewed result ≡ mesh_of x.now y.now z.now t0.now t1.now t2.now }
+{
+    TriangleMeshView {
+        nodes: NodeColumns { x, y, z },
+        panels: PanelColumns { t0, t1, t2 },
+    }
+}
 
 // The mesh test's number for corners (0,0,0), (1,0,0), (0,height,0).
 pub fn thin_refusal(height: f64) -> u32
@@ -16,10 +36,8 @@ pub fn thin_refusal(height: f64) -> u32
     let x = [0.0, 1.0, 0.0];
     let y = [0.0, 0.0, height];
     let z = [0.0, 0.0, 0.0];
-    let a = [0usize];
-    let b = [1usize];
-    let c = [2usize];
-    mesh::validate_triangle_mesh_geometry(&x, &y, &z, &a, &b, &c).refusal
+    let mesh = lent(&x, &y, &z, &[0], &[1], &[2]);
+    refusal::number_of(&mesh::validate_triangle_mesh_geometry(&mesh))
 }
 
 // Whether (0,0,0), (3,0,0), (0,4,0) is far from itself raised by z.
@@ -55,7 +73,7 @@ pub fn flux() -> [f64; 2]
     let map = [1.0, 2.0, 3.0, 4.0];
     let coefficients = [5.0, 6.0];
     let mut out = [0.0, 0.0];
-    linkage::flux::triangle_mesh_flux_linkage_from_source_coefficients(
+    let _ = linkage::flux::triangle_mesh_flux_linkage_from_source_coefficients(
         &map,
         &coefficients,
         &mut out,
@@ -73,7 +91,7 @@ pub fn interaction_energy() -> f64
         &map,
         &values,
         &coefficients,
-    ).value
+    ).unwrap_or(0.0)
 }
 
 // The flux call's number for an empty map, no sources and one output.
@@ -83,10 +101,12 @@ pub fn no_sources() -> u32
     let map = [0.0];
     let coefficients = [0.0];
     let mut out = [0.0];
-    linkage::flux::triangle_mesh_flux_linkage_from_source_coefficients(
-        &map[..0],
-        &coefficients[..0],
-        &mut out,
+    refusal::number_of(
+        &linkage::flux::triangle_mesh_flux_linkage_from_source_coefficients(
+            &map[..0],
+            &coefficients[..0],
+            &mut out,
+        ),
     )
 }
 
@@ -95,13 +115,12 @@ pub fn energy() -> f64
 {
     let matrix = [1.0, 0.0, 0.0, 1.0];
     let values = [3.0, 4.0];
-    linkage::energy::triangle_mesh_inductive_energy(&matrix, &values).value
+    linkage::energy::triangle_mesh_inductive_energy(&matrix, &values).unwrap_or(0.0)
 }
 
 // 1/1024 H in whole nanohenries.
 pub fn displayed() -> u64
     ensures { pos result ≡ Display.shown inductance }
 {
-    let shown = display::display(0.0009765625).value;
-    shown as u64
+    display::display(0.0009765625).unwrap_or(0) as u64
 }

@@ -6,36 +6,6 @@ use Rattle.density_text.specs.Text.{decimal, first_line}
 use Rattle.density_text.proofs.Numerals.{decimal_short}
 use Rattle.density_text.proofs.put_first.Goals as goal
 
-pub put-a-requires : goal.put-a-requires
-put-a-requires c =
-    omega (arith, c.requires)
-
-pub put_decimal-b-requires : goal.put_decimal-b-requires
-put_decimal-b-requires c =
-    let a = c.put-a in
-    (omega (arith, c.requires), omega (arith, c.requires))
-
-pub put-c-requires : goal.put-c-requires
-put-c-requires c =
-    let a = c.put-a in
-    let b = c.put_decimal-b in
-    omega (arith, c.requires, decimal_short c.args.n)
-
-pub put_decimal-d-requires : goal.put_decimal-d-requires
-put_decimal-d-requires c =
-    let a = c.put-a in
-    let b = c.put_decimal-b in
-    let d = c.put-c in
-    (omega (arith, c.requires), omega (arith, c.requires, decimal_short c.args.n))
-
-pub put-requires : goal.put-requires
-put-requires c =
-    let a = c.put-a in
-    let b = c.put_decimal-b in
-    let d = c.put-c in
-    let e = c.put_decimal-d in
-    omega (arith, c.requires, decimal_short c.args.n, decimal_short c.args.p)
-
 pub returns : goal.returns
 unfolding first_line
 returns c =

@@ -3,7 +3,7 @@ use native.Mathlib.Omega.{arith}
 use Rattle.lists.proofs.Putting.{both}
 use Rattle.binary64.specs.Binary64.{at}
 use Rattle.density_text.specs.Text.{decimal, field, line}
-use Rattle.density_text.proofs.Numerals.{decimal_short, field-length}
+use Rattle.density_text.proofs.Numerals.{decimal_short, field_length}
 use Rattle.density_text.proofs.put_panel.Goals as goal
 
 pub returns : goal.returns
@@ -14,34 +14,8 @@ returns c =
     let d = c.put_field-c in
     let e = c.put_field-d in
     let f = c.put in
-    both c.args.out.now c.args.from (decimal c.args.i) _ _ _ _ _ (omega (arith, c.requires, decimal_short c.args.i, field-length (at c.args.j 0), field-length (at c.args.j 1), field-length (at c.args.j 2))) a.ensures
-    (both a.new.out a.result (field (at c.args.j 0)) _ _ _ _ _ (omega (arith, c.requires, decimal_short c.args.i, field-length (at c.args.j 0), field-length (at c.args.j 1), field-length (at c.args.j 2))) b.ensures
-    (both b.new.out b.result (field (at c.args.j 1)) _ _ _ _ _ (omega (arith, c.requires, decimal_short c.args.i, field-length (at c.args.j 0), field-length (at c.args.j 1), field-length (at c.args.j 2))) d.ensures
-    (both d.new.out d.result (field (at c.args.j 2)) _ _ _ _ _ (omega (arith, c.requires, decimal_short c.args.i, field-length (at c.args.j 0), field-length (at c.args.j 1), field-length (at c.args.j 2))) e.ensures
+    both c.args.out.now c.args.from (decimal c.args.i) _ _ _ _ _ (omega (arith, c.requires, decimal_short c.args.i, field_length (at c.args.j 0), field_length (at c.args.j 1), field_length (at c.args.j 2))) a.ensures
+    (both a.new.out a.result (field (at c.args.j 0)) _ _ _ _ _ (omega (arith, c.requires, decimal_short c.args.i, field_length (at c.args.j 0), field_length (at c.args.j 1), field_length (at c.args.j 2))) b.ensures
+    (both b.new.out b.result (field (at c.args.j 1)) _ _ _ _ _ (omega (arith, c.requires, decimal_short c.args.i, field_length (at c.args.j 0), field_length (at c.args.j 1), field_length (at c.args.j 2))) d.ensures
+    (both d.new.out d.result (field (at c.args.j 2)) _ _ _ _ _ (omega (arith, c.requires, decimal_short c.args.i, field_length (at c.args.j 0), field_length (at c.args.j 1), field_length (at c.args.j 2))) e.ensures
     f.ensures)))
-
-pub put_field-b-requires : goal.put_field-b-requires
-put_field-b-requires c =
-    let a = c.put_decimal-a in
-    omega (arith, c.requires, decimal_short c.args.i)
-
-pub put_field-c-requires : goal.put_field-c-requires
-put_field-c-requires c =
-    let a = c.put_decimal-a in
-    let b = c.put_field-b in
-    omega (arith, c.requires, decimal_short c.args.i, field-length (at c.args.j 0))
-
-pub put_field-d-requires : goal.put_field-d-requires
-put_field-d-requires c =
-    let a = c.put_decimal-a in
-    let b = c.put_field-b in
-    let d = c.put_field-c in
-    omega (arith, c.requires, decimal_short c.args.i, field-length (at c.args.j 0), field-length (at c.args.j 1))
-
-pub put-requires : goal.put-requires
-put-requires c =
-    let a = c.put_decimal-a in
-    let b = c.put_field-b in
-    let d = c.put_field-c in
-    let e = c.put_field-d in
-    omega (arith, c.requires, decimal_short c.args.i, field-length (at c.args.j 0), field-length (at c.args.j 1), field-length (at c.args.j 2))

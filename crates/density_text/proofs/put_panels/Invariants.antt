@@ -1,14 +1,8 @@
 -- After i turns the lines of the first i panels are in place.
-use mathlib.Core.Path.{◌≡◌}
-use Prim.Native.Nat.{◌-◌, ◌≤◌}
-use lib.ListN.{length}
 use Rattle.panel_file.specs.LittleEndian.{rows_from}
 use Rattle.lists.specs.Putting.{Put}
 use Rattle.density_text.specs.Text.{panel_line}
 use Rattle.density_text.proofs.put_panels.Given as goal
 
 abbrev pub invariant-loop-i : goal.invariant-loop-i
-invariant-loop-i l = (l.i ≤ l.p) × (length l.out ≡ length l.initial.out) × Put l.initial.out l.from (rows_from (panel_line l.bytes) 0 l.i) l.out l.to
-
-abbrev pub decreases-loop-i : goal.decreases-loop-i
-decreases-loop-i l = l.p - l.i
+invariant-loop-i l = Put l.initial.out l.from (rows_from (panel_line l.input.bytes.now) 0 l.i) l.out l.to

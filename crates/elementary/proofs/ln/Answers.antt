@@ -1,36 +1,17 @@
--- The five cases in the order written. Where none of the first four holds, x has the pattern of a finite number above zero, and its pattern stands for x.
+-- At zero the infinity is negated. Where none of the first four cases holds, x has the pattern of a finite number above zero, and its pattern stands for x.
 use mathlib.Core.Path.{◌≡◌, sym, ap, ◌∙◌, subst}
 use mathlib.Core.Bool.{false}
 use lib.Dec.{T}
 use lib.Ieee.{Float, binary64, fits, neg, eq, inf}
 use lib.Ieee.Bits.{of_bits-to_bits}
 use Rattle.elementary.specs.Elementary as Spec
-use Rattle.ieee754.proofs.Signs.{no_nan}
 use Rattle.elementary.proofs.Finite.{above_zero, under_infinity}
 use Rattle.elementary.proofs.ln.Goals as goal
-
-pub returns-then-is_nan : goal.returns-then-is_nan
-unfolding Spec.ln
-returns-then-is_nan c = rw (← c.is_nan.ensures, c.if-is_nan.true) c.not_a_number.ensures
-
-pub returns-then-x : goal.returns-then-x
-unfolding Spec.ln
-returns-then-x c =
-    rw (← c.is_nan.ensures, c.if-is_nan.false, c.if-x.true) c.not_a_number-then-x.ensures
 
 pub returns-then-x-2 : goal.returns-then-x-2
 unfolding Spec.ln neg
 returns-then-x-2 c =
     rw (← c.is_nan.ensures, c.if-is_nan.false, c.if-x.false, c.if-x-2.true, c.infinity.ensures)
-
-pub returns-then-x-infinity : goal.returns-then-x-infinity
-unfolding Spec.ln
-returns-then-x-infinity c =
-    rw (← c.is_nan.ensures, c.if-is_nan.false, c.if-x.false, c.if-x-2.false, ← c.infinity-infinity.ensures, c.if-x-infinity.true)
-
-pub float_to_bits-x : goal.float_to_bits-x
-float_to_bits-x c =
-    no_nan c.args.x (sym c.is_nan.ensures ∙ c.if-is_nan.false)
 
 pub ln_of_bits-requires : goal.ln_of_bits-requires
 ln_of_bits-requires c =

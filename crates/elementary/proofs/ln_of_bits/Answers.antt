@@ -1,14 +1,9 @@
 -- The shifted significand and its exponent are the mantissa and the exponent of the pattern’s value (`pattern_parts`); then the two cases of `ln_reduced`.
 use mathlib.Core.Path.{sym}
 use Prim.Native.Nat.{◌+◌, ◌-◌, ◌*◌, ◌^◌}
-use native.Mathlib.Omega.{arith}
 use lib.Ieee.{binary64, of_bits}
-use Rattle.binary64.proofs.Pattern.{no_nan}
 use Rattle.elementary.proofs.Parts.{Parts, pattern_parts, ln_halved, ln_kept}
 use Rattle.elementary.proofs.ln_of_bits.Goals as goal
-
-pub float_from_bits-m : goal.float_from_bits-m
-float_from_bits-m c = no_nan _ (omega arith)
 
 pub returns-then-m : goal.returns-then-m
 returns-then-m c =

@@ -1,12 +1,12 @@
 -- `guided_bits`: x * y + z by the sign and the exponent of a estimate t. The exact sum, shifted so that its leading digit is at `leading_place`, is rounded to a
--- significand; where the leading digit is not there, the estimate was wrong and the answer is refused. Nothing is assumed of t.
-use Rattle.std.proofs.Common.{◌≡◌, ℕ, zero, suc, ◌+◌, ◌-◌, ◌*◌, ◌/◌, ◌%◌, ◌^◌, ◌<◌, ◌≤◌, Bool, true, false, cond, not, ◌&&◌, T, leb, sym, refl, ap, ◌∙◌, subst, inr, le_trans, le_of_eq, lt_of_lt_of_le, le-add_right, lt_of_le_of_lt, lt_irrefl, mul-le-mul_right, mod-lt, zero-lt-suc, mul_assoc, div-lt_iff_lt-mul, add-mul, lt_of_mul-lt-mul_right, mul-lt-mul_of_pos_right, lt_of_not-le, div-add-mod', le-div_iff_mul-le, zero-add, zero-mul, mul_right_comm, arith, pow_pos, pow_mono, pow-add}
+-- significand; where the leading digit is not there, the estimate was wrong and there is no answer. Nothing is assumed of t.
+use Rattle.std.proofs.Common.{◌≡◌, ℕ, Some, None, zero, suc, ◌+◌, ◌-◌, ◌*◌, ◌/◌, ◌%◌, ◌^◌, ◌<◌, ◌≤◌, Bool, true, false, cond, not, ◌&&◌, T, leb, sym, refl, ap, ◌∙◌, subst, inr, le_trans, le_of_eq, lt_of_lt_of_le, le-add_right, lt_of_le_of_lt, lt_irrefl, mul-le-mul_right, mod-lt, zero-lt-suc, mul_assoc, div-lt_iff_lt-mul, add-mul, lt_of_mul-lt-mul_right, mul-lt-mul_of_pos_right, lt_of_not-le, div-add-mod', le-div_iff_mul-le, zero-add, zero-mul, mul_right_comm, arith, pow_pos, pow_mono, pow-add}
 use native.Mathlib.Nat.{div-eq_of_lt, min-eq_left}
 use lib.Ieee.{Float, binary64, unlike, round, sum, units, fits, nan_bits, of_bits, to_bits}
 use lib.Ieee.Nearest.{closest}
 use Rattle.fused_integer.specs.Jam.{Jam}
 use Rattle.binary64.specs.Pattern.{mag}
-use Rattle.fused_guided.specs.Guided.{field, normal_significand, wrapped, signed_sum, SignedWords, leads, rounded_significand, usable, guided, Found, central_from, central_to, leading_place, residual_top, word_bias}
+use Rattle.fused_guided.specs.Guided.{field, normal_significand, wrapped, signed_sum, SignedWords, leads, rounded_significand, significand, usable, guided, Found, central_from, central_to, leading_place, residual_top, word_bias}
 use Rattle.binary64.specs.Operations.{fma}
 use Rattle.binary64.proofs.Reading.{sign_of, abs_of, read_plain}
 use Rattle.binary64.proofs.Values.{fma-values}
@@ -248,6 +248,27 @@ module _ (cp cz : Bool) (p z s dh dl : ℕ) (S : 1 ≤ s) (S' : s < 63) (D : Sig
     unfolding rounded_significand
     sum_near sig e = e ∙ ap (λ (y : ℕ). closest y (2 ^ 64)) shifted
 
+-- its answer, both ways
+pub no_significand : (x s : ℕ) → leads x s ≡ false → None ≡ significand x s
+no_significand x s e = sym (ap (λ (b : Bool). cond b (Some (rounded_significand x s)) None) e)
+
+pub a_significand : (x s sig : ℕ) → leads x s ≡ true → sig ≡ rounded_significand x s → Some sig ≡ significand x s
+a_significand x s sig l e = ap Some e ∙ sym (ap (λ (b : Bool). cond b (Some (rounded_significand x s)) None) l)
+
+pub none_leads : (x s : ℕ) → None ≡ significand x s → leads x s ≡ false
+none_leads x s = go (leads x s)
+  where
+    go : (b : Bool) → None ≡ cond b (Some (rounded_significand x s)) None → b ≡ false
+    go true e = cc
+    go false e = refl
+
+pub some_leads : (x s sig : ℕ) → Some sig ≡ significand x s → (leads x s ≡ true) × (sig ≡ rounded_significand x s)
+some_leads x s sig = go (leads x s)
+  where
+    go : (b : Bool) → Some sig ≡ cond b (Some (rounded_significand x s)) None → (b ≡ true) × (sig ≡ rounded_significand x s)
+    go true e = (refl, cc)
+    go false e = (cc, cc)
+
 -- ---- what `guided_bits` computes
 
 unwrapped_s : (s ex ey et : ℕ) → s < 63 → et < 2048 → (s + (et + word_bias)) % 2 ^ 64 ≡ ex + ey → s + (et + word_bias) ≡ ex + ey
@@ -347,14 +368,10 @@ guided_no bx by bz bt ex ey ez et k s X Y Z T KB SB K S off =
     refl refl refl refl refl refl refl refl refl refl)
     ∙ ap (λ (b : Bool). b && leads (signed_sum cp (normal_significand bx * normal_significand by) cz (normal_significand bz * 2 ^ k)) s) off
 
--- the significand that an answer has
-pub guided_sig : (b : Bool) (x s sig : ℕ) → b ≡ true → sig ≡ cond b (rounded_significand x s) 0 → sig ≡ rounded_significand x s
-guided_sig b x s sig B e = e ∙ ap (λ (c : Bool). cond c (rounded_significand x s) 0) B
-
-pub sig_le : (b : Bool) (x s sig : ℕ) → b ≡ leads x s → sig ≡ cond b (rounded_significand x s) 0 → sig ≤ 2 ^ 53
+-- the significand of an answer is the rounded one
+pub sig_le : (x s sig : ℕ) → leads x s ≡ true → sig ≡ rounded_significand x s → sig ≤ 2 ^ 53
 unfolding rounded_significand
-sig_le true x s sig l e = le_trans (le_of_eq e) (le_trans (closest_le (x * 2 ^ s) (2 ^ 64)) ((div-lt_iff_lt-mul (pow_pos 64)).1 (leads-high x s (sym l))))
-sig_le false x s sig l e = le_trans (le_of_eq e) Prim.Native.Nat.zero-le
+sig_le x s sig l e = le_trans (le_of_eq e) (le_trans (closest_le (x * 2 ^ s) (2 ^ 64)) ((div-lt_iff_lt-mul (pow_pos 64)).1 (leads-high x s l)))
 
 -- ---- what `guided` returns
 

@@ -1,6 +1,6 @@
--- The Boolean tests of the guided form, as facts on numbers: each `…_is` reads a test that came out true, `leads_no` and `leads_yes` say what `leads` comes
+-- The Boolean tests of the guided form, as facts on numbers: each `…_is` reads a test r that came out true, `leads_no` and `leads_yes` say what `leads` comes
 -- to.
-use Rattle.std.proofs.Common.{◌≡◌, ℕ, suc, ◌+◌, ◌*◌, ◌^◌, ◌<◌, ◌≤◌, Bool, true, false, ◌&&◌, T, ltb, leb, sym, refl, subst, le→leb, ltb→lt, lt→ltb, leb→le}
+use Rattle.std.proofs.Common.{◌≡◌, ℕ, suc, ◌+◌, ◌*◌, ◌^◌, ◌<◌, ◌≤◌, Bool, true, false, ◌&&◌, T, ltb, leb, sym, refl, ◌∙◌, subst, le→leb, ltb→lt, lt→ltb, leb→le}
 use lib.Ieee.Fits.{and_l, and_r, and_i}
 use lib.Ieee.Bits.{is_true}
 use Rattle.fused_guided.specs.Guided.{central, in_reach, far_above, leads, central_from, central_to, leading_place, word_bias}
@@ -30,9 +30,9 @@ pub record Reach (least ex ey k s : ℕ) : Type 0 where
   pub some : least ≤ s
   pub near_t : s < 63
 
-pub reach_is : (least ex ey k s : ℕ) → in_reach least ex ey k s ≡ true → Reach least ex ey k s
-reach_is least ex ey k s e =
-    let t : T (in_reach least ex ey k s) = subst T (sym e) tt in
+pub reach_is : (least ex ey k s : ℕ) {r : Bool} → r ≡ in_reach least ex ey k s → r ≡ true → Reach least ex ey k s
+reach_is least ex ey k s R e =
+    let t : T (in_reach least ex ey k s) = subst T (sym e ∙ R) tt in
     let g = and_r (central ex && central ey) (ltb k 64 && (leb least s && ltb s 63)) t in
     let h = and_r (ltb k 64) (leb least s && ltb s 63) g in
     record {
@@ -47,9 +47,9 @@ pub record Far (ex ey ez : ℕ) : Type 0 where
   pub finite_z : ez < top_field
   pub above : ex + ey ≤ ez + word_bias
 
-pub far_is : (ex ey ez : ℕ) → far_above ex ey ez ≡ true → Far ex ey ez
-far_is ex ey ez e =
-    let t : T (far_above ex ey ez) = subst T (sym e) tt in
+pub far_is : (ex ey ez : ℕ) {r : Bool} → r ≡ far_above ex ey ez → r ≡ true → Far ex ey ez
+far_is ex ey ez R e =
+    let t : T (far_above ex ey ez) = subst T (sym e ∙ R) tt in
     let g = and_r (central ex && central ey) (ltb ez top_field && leb (ex + ey) (ez + word_bias)) t in
     record {
       factors = factors_is ex ey (and_l (central ex && central ey) (ltb ez top_field && leb (ex + ey) (ez + word_bias)) t);

@@ -1,34 +1,31 @@
--- The smaller is cut to the larger's place with a sticky bit, added or taken away, and finished: `combine_law`.
-use Rattle.std.proofs.Common.{◌+◌, ◌-◌, ◌*◌, ◌^◌, refl, lt_of_lt_of_le, lt_of_le_of_lt, sub-add_cancel, pow_pos}
-use Rattle.fused_integer.proofs.Laws.Combine.{high_pos, high_small, jam-le, shifted_le, combine_law}
+-- The smaller is cut to the larger's place with a sticky bit, added or taken away, and finished: `combine_add`, `combine_sub`.
+use Rattle.std.proofs.Common.{ℕ, ◌-◌, Bool, sym, ap, ◌∙◌, subst, sub-add_cancel}
+use Rattle.fused_integer.specs.Parts.{Finish, Combined}
+use Rattle.fused_integer.specs.Words.{words}
+use Rattle.fused_integer.proofs.Laws.Combine.{shifted_le, combine_add, combine_sub}
 use Rattle.fused_integer.proofs.combine.Goals as goal
+use Rattle.fused_integer.proofs.combine.Goals.{then-same, else-same}
 
-pub jam-w-requires : goal.jam-w-requires
-jam-w-requires c = high_pos c.args.bh c.args.bl c.requires.lead₂ c.ranges.bl.fits
-
-pub add-s-requires : goal.add-s-requires
-add-s-requires c =
-    let b = c.args.bh * 2 ^ 64 + c.args.bl in
-    let w = c.jam-w.result in record {
-      ah_bound = high_small c.args.ah c.args.al (c.args.ah * 2 ^ 64 + c.args.al) refl c.requires.top;
-      bh_bound = high_small w.hi w.lo (w.hi * 2 ^ 64 + w.lo) refl
-          (lt_of_le_of_lt (jam-le b (2 ^ (c.args.g - c.args.h)) (w.hi * 2 ^ 64 + w.lo) (pow_pos (c.args.g - c.args.h))
-          (lt_of_lt_of_le (pow_pos 126) c.requires.lead₂) c.jam-w.ensures) c.requires.top₂);
-    }
-
-pub sub-d-requires : goal.sub-d-requires
-sub-d-requires c =
-    let w = c.jam-w.result in
-    shifted_le (c.args.ah * 2 ^ 64 + c.args.al) c.args.g (c.args.bh * 2 ^ 64 + c.args.bl) c.args.h (w.hi * 2 ^ 64 + w.lo)
-    (c.args.g - c.args.h) c.requires (sub-add_cancel c.requires.exps) c.jam-w.ensures
+pub sub-total-requires : goal.sub-total-requires
+sub-total-requires c =
+    let a = c.args.a in
+    let b = c.args.b in
+    shifted_le (words a.wide) a.exp (words b.wide) b.exp (words c.jam-w.result) (a.exp - b.exp) c.requires
+    (sub-add_cancel c.requires.exps) c.jam-w.ensures
 
 pub returns : goal.returns
 returns c =
-    let w = c.jam-w in
-    let p = c.add-s in
-    let m = c.sub-d in
-    combine_law (c.args.ah * 2 ^ 64 + c.args.al) c.args.g (c.args.bh * 2 ^ 64 + c.args.bl) c.args.h (w.result.hi * 2 ^ 64 + w.result.lo)
-    (c.args.g - c.args.h) c.requires (sub-add_cancel c.requires.exps) w.ensures
-    c.args.same c.choose.result c.choose-2.result p.result.hi p.result.lo m.result.hi m.result.lo
-    c.finish.result
-    c.choose.ensures c.choose-2.ensures p.ensures m.ensures c.finish.ensures
+    let a = c.args.a in
+    let b = c.args.b in
+    let r = c.finish.result in
+    let d = sub-add_cancel c.requires.exps in
+    elim c.if-same.branch [
+      | then-same w ↦
+          subst (λ (s : Bool). Combined s (words a.wide) a.exp (words b.wide) b.exp r) (sym w.if-same.true)
+          (combine_add (words a.wide) a.exp (words b.wide) b.exp (words c.jam-w.result) (a.exp - b.exp) c.requires d c.jam-w.ensures r
+          (subst (λ (x : ℕ). Finish x a.exp r) (ap words w.total-is ∙ w.add-total.ensures) c.finish.ensures))
+      | else-same w ↦
+          subst (λ (s : Bool). Combined s (words a.wide) a.exp (words b.wide) b.exp r) (sym w.if-same.false)
+          (combine_sub (words a.wide) a.exp (words b.wide) b.exp (words c.jam-w.result) (a.exp - b.exp) c.requires d c.jam-w.ensures r
+          (subst (λ (x : ℕ). Finish x a.exp r) (ap words w.total-is ∙ w.sub-total.ensures) c.finish.ensures))
+    ]

@@ -1,10 +1,10 @@
 -- Where x or y is a zero or an infinity, or z is one, no rounding is lost (`odd_x`, `odd_y`, `zero_z`, `inf_z`); else `finite` gives the bits of the sum.
-use Rattle.std.proofs.Common.{◌≡◌, ℕ, ◌*◌, ◌^◌, ◌<◌, ◌≤◌, Bool, T, sym, ap, ◌∙◌, subst, arith}
+use Rattle.std.proofs.Common.{◌≡◌, ℕ, ◌*◌, ◌^◌, ◌≤◌, Bool, T, sym, ap, ◌∙◌, subst}
 use lib.Ieee.{binary64, fits, unlike, sum}
 use Rattle.binary64.specs.Pattern.{mag}
 use Rattle.binary64.proofs.Reading.{sign_of, read-inf, read_zero, mag_pos}
 use Rattle.binary64.proofs.Values.{fma-values}
-use Rattle.fused_integer.proofs.Laws.Cases.{odd_x, odd_y, inf_z, zero_z, sum_no_nan, sum-read, plain_value}
+use Rattle.fused_integer.proofs.Laws.Cases.{odd_x, odd_y, inf_z, zero_z, sum-read, plain_value}
 use Rattle.binary64.specs.Format.{infinity_bits, lowest}
 use Rattle.binary64.specs.Nearest.{den}
 use Rattle.fused_integer.proofs.fused_numbers.Goals as goal
@@ -59,25 +59,6 @@ returns-then-az-ge-INFINITY_BITS c =
     (plain_value c.args.x mx.result held_x mx.ensures gx.1) (plain_value c.args.y my.result held-y my.ensures gy.1)
     (read-inf c.args.z held-z c.requires.t_3 (subst (λ (w : ℕ). infinity_bits ≤ w) mz.ensures c.if-az-ge-INFINITY_BITS.true))
 
-pub finite-requires : goal.finite-requires
-finite-requires c =
-    let px = c.plain in
-    let py = c.plain-2 in record {
-      ax_nonzero = px.ensures.0 c.if-not-plain.false;
-      ay_nonzero = py.ensures.0 c.if-not-plain-2.false;
-      az_nonzero = (some c.magnitude-az.result c.if-az-eq0.false, c.if-az-ge-INFINITY_BITS.false);
-    }
-  where
-    some : (a : ℕ) → (a ≡ 0 → ⊥) → 0 < a
-    some a h = omega arith
-
-pub float_from_bits-result : goal.float_from_bits-result
-float_from_bits-result c =
-    sum_no_nan c.opposite.result c.negative-3.result
-    (mag c.magnitude-ax.result * mag
-    c.magnitude-ay.result)
-    (mag c.magnitude-az.result * 2 ^ lowest) c.finite.result c.finite.ensures
-
 pub returns : goal.returns
 returns c =
     let held_x : T (fits binary64 c.args.x) = subst T (sym c.well_formed.0.1) tt in
@@ -92,12 +73,12 @@ returns c =
     let gy = py.ensures.0 c.if-not-plain-2.false in
     let n = mag mx.result * mag my.result in
     let p = mag mz.result * 2 ^ lowest in
-    let sx : c.opposite.result ≡ unlike (sign_of c.args.x) (sign_of c.args.y) =
-    c.opposite.ensures ∙ ap (λ (w : Bool). unlike w c.negative-2.result) c.negative.ensures
-    ∙ ap (λ (w : Bool). unlike (sign_of c.args.x) w) c.negative-2.ensures in
-    sum-read c.opposite.result c.negative-3.result n p c.finite.result c.finite.ensures
-    ∙ ap (λ (w : Bool). sum binary64 w n c.negative-3.result p den) sx
-    ∙ ap (λ (w : Bool). sum binary64 (unlike (sign_of c.args.x) (sign_of c.args.y)) n w p den) c.negative-3.ensures
+    let sx : (unlike c.minus_sign.result c.minus_sign-2.result) ≡ unlike (sign_of c.args.x) (sign_of c.args.y) =
+    ap (λ (w : Bool). unlike w c.minus_sign-2.result) c.minus_sign.ensures
+    ∙ ap (λ (w : Bool). unlike (sign_of c.args.x) w) c.minus_sign-2.ensures in
+    sum-read (unlike c.minus_sign.result c.minus_sign-2.result) c.minus_sign-3.result n p c.finite.result c.finite.ensures
+    ∙ ap (λ (w : Bool). sum binary64 w n c.minus_sign-3.result p den) sx
+    ∙ ap (λ (w : Bool). sum binary64 (unlike (sign_of c.args.x) (sign_of c.args.y)) n w p den) c.minus_sign-3.ensures
     ∙ fma-values c.args.x c.args.y c.args.z (sign_of c.args.x) (sign_of c.args.y) (sign_of c.args.z) (mag mx.result)
     (mag my.result) (mag mz.result)
     (plain_value c.args.x mx.result held_x mx.ensures gx.1) (plain_value c.args.y my.result held-y my.ensures gy.1)

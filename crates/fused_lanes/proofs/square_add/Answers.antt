@@ -2,16 +2,9 @@
 use mathlib.Core.Path.{◌≡◌, sym, ap, ◌∙◌, subst}
 use lib.Dec.{T}
 use lib.Ieee.{binary64, fits, is_nan}
-use Rattle.binary64.proofs.Pattern.{no_nan}
 use Rattle.fused_lanes.specs.Lanes as Spec
 use Rattle.fused_lanes.proofs.Laws.Lane.{lane-fma}
 use Rattle.fused_lanes.proofs.square_add.Goals as goal
-
-pub float_from_bits-a : goal.float_from_bits-a
-float_from_bits-a c = no_nan c.magnitude_or_zero-b.result c.magnitude_or_zero-b.ensures.upper_bound
-
-pub leading-requires : goal.leading-requires
-leading-requires c = c.magnitude_or_zero-b.ensures.upper_bound
 
 pub returns : goal.returns
 unfolding Spec.square_add

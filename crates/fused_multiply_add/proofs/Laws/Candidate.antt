@@ -1,18 +1,18 @@
 -- The hardware's t = x * y + z as a candidate: t is within the rest's word of the exact sum (`close`), and the sum of t and the cut rest is the exact sum's
 -- rounding (`residual_law`). The tests leave out a t below 2 ^ 67 of the product's last places, where much has cancelled, so the exact sum has t's sign.
-use Rattle.std.proofs.Common.{◌≡◌, ℕ, ◌+◌, ◌-◌, ◌*◌, ◌/◌, ◌%◌, ◌^◌, ◌<◌, ◌≤◌, Bool, false, cond, T, sym, ap, ◌∙◌, subst, le_trans, le_of_eq, lt_of_lt_of_le, mul_assoc, mul-lt-mul_of_pos_right, arith, pow_pos, pow_mono, pow-add}
+use Rattle.std.proofs.Common.{◌≡◌, ℕ, ◌+◌, ◌-◌, ◌*◌, ◌/◌, ◌%◌, ◌^◌, ◌<◌, ◌≤◌, Bool, true, false, cond, T, sym, ap, ◌∙◌, subst, le_trans, le_of_eq, lt_of_lt_of_le, mul_assoc, mul-lt-mul_of_pos_right, arith, pow_pos, pow_mono, pow-add}
 use lib.Ieee.{Float, binary64, unlike, add, mul, fits, to_bits}
 use lib.Ieee.Fits.{add-fits}
 use lib.Ieee.Exact.{HasValue}
 use Rattle.binary64.specs.Nearest.{Near}
 use Rattle.fused_integer.specs.Jam.{Jam}
 use Rattle.fused_guided.specs.Guided.{Residual}
-use Rattle.fused_multiply_add.specs.Residual.{Fits, added, taken, residual_bias, least_place}
+use Rattle.fused_multiply_add.specs.Residual.{Fits, added, taken, residual_bias, least_place, reach}
 use Rattle.binary64.specs.Operations.{fma}
 use Rattle.fused_integer.proofs.Laws.Jam.{jam-add}
 use Rattle.binary64.proofs.Reading.{sign_of}
-use Rattle.fused_guided.proofs.Laws.Tests.{Factors, Reach}
-use Rattle.fused_guided.proofs.Laws.Terms.{Terms, terms, fma_terms, place-some, place_few, place-units, unwrapped_k, normal-value, significand_ge, significand-lt, units_shift, shift_ge, shift_even}
+use Rattle.fused_guided.proofs.Laws.Tests.{Factors, Reach, reach_is}
+use Rattle.fused_guided.proofs.Laws.Terms.{RestPlace, rest-place, Terms, terms, fma_terms, place-some, place_few, place-units, unwrapped_k, normal-value, significand_ge, significand-lt, units_shift, shift_ge, shift_even}
 use Rattle.fused_guided.proofs.Laws.Guided.{sum_is}
 use Rattle.fused_multiply_add.proofs.Laws.Error.{TwoRoundings, two_roundings, sum-plus, candidate_error}
 use Rattle.fused_guided.proofs.Laws.Residual.{jam_round}
@@ -21,6 +21,12 @@ use Rattle.binary64.specs.Format.{lowest, quantum_bias}
 
 pub place-word : (m : ℕ) → m < 63 → m < 64
 place-word m h = omega arith
+
+-- the place of the rest's cut, where the tests hold
+pub cut_place : (ex ey k m : ℕ) {r : Bool} → r ≡ reach ex ey k m → r ≡ true → RestPlace residual_bias ex ey
+cut_place ex ey k m R e =
+    let ok = reach_is least_place ex ey k m R e in
+    rest-place residual_bias ex ey (lib.Dec.lit≤ tt) (lib.Dec.lit< tt) ok.factors
 
 -- ---- x, y, z and the candidate, by their patterns
 

@@ -1,16 +1,15 @@
--- A number lies strictly between the two infinities exactly if it is finite: by its cases, a NaN being below and above nothing.
-use Rattle.std.specs.Prelude.{◌≡◌, true, false, ◌&&◌}
-use mathlib.Core.Path.{refl}
-use lib.Ieee.{Float, nan, inf, fin, neg, lt}
+-- The library's test is the definition's: by x's cases.
+use mathlib.Core.Path.{◌≡◌, refl, ◌∙◌}
+use lib.Ieee.{Float, nan, inf, fin}
+use Rattle.std.specs.Float.{float_is_finite}
 use Rattle.ieee754.specs.Ieee754.{is_finite}
 use Rattle.ieee754.proofs.is_finite.Goals as goal
 
-between : (x : Float) → (lt (neg (inf false)) x && lt x (inf false)) ≡ is_finite x
-unfolding lt neg is_finite
-between nan = refl
-between (inf true) = refl
-between (inf false) = refl
-between (fin s m e) = refl
+same : (x : Float) → float_is_finite x ≡ is_finite x
+unfolding float_is_finite is_finite
+same nan = refl
+same (inf s) = refl
+same (fin s m e) = refl
 
 pub returns : goal.returns
-returns c = rw c.infinity-infinity.ensures (between c.args.x)
+returns c = c.is_finite.ensures.value ∙ same c.args.x

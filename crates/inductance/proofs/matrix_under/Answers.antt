@@ -1,18 +1,20 @@
 -- A refusal leaves the output as it was; a call that is done is ready, and with every node marked the renewed matrix is the fresh one.
 use mathlib.Core.Path.{sym}
 use lib.ListN.{length-replicate}
-use Rattle.refusal.proofs.Checks.{after-refused}
-use Rattle.mesh.specs.Mesh.{mesh_of}
+use Rattle.std.proofs.lemmas.Result.{err_from_is_err_and}
+use Rattle.refusal.proofs.Outcome.{never_0, after_refusal}
+use Rattle.mesh.specs.Columns.{viewed}
 use Rattle.inductance.proofs.Ready.{ready, assembled}
 use Rattle.inductance.proofs.matrix_under.Goals as goal
 
-pub returns-then-refusal-ne0 : goal.returns-then-refusal-ne0
-returns-then-refusal-ne0 c = let h = c.if-refusal-ne0.true in record { refusal = c.sized_refusal-refusal.ensures; cells = sym (after-refused _ _ _ h); symmetric = λ z. absurd (h z) }
+pub returns-in_err-check_sized : goal.returns-in_err-check_sized
+returns-in_err-check_sized c =
+    let p = err_from_is_err_and c.from_residual.result c.from_residual.ensures.1 in
+    rw (p.1, p.2) (record { refusal = c.in_err-check_sized.ensures; cells = sym (after_refusal _ _ _); symmetric = λ z. absurd (never_0 _ z) })
 
 pub renew-requires : goal.renew-requires
 renew-requires c =
-    let a = c.args in
-    let w = ready (mesh_of a.x.now a.y.now a.z.now a.t0.now a.t1.now a.t2.now) a.out.now _ c.sized_refusal-refusal.ensures c.if-refusal-ne0.false in
+    let w = ready (viewed c.args.mesh.now) c.args.out.now c.in_ok-check_sized.ensures in
     record {
       nodes_alike = w.nodes_alike;
       panels_alike = w.panels_alike;
@@ -22,6 +24,4 @@ renew-requires c =
     }
 
 pub returns : goal.returns
-returns c =
-    let a = c.args in
-    assembled (mesh_of a.x.now a.y.now a.z.now a.t0.now a.t1.now a.t2.now) a.out.now _ c.sized_refusal-refusal.ensures c.if-refusal-ne0.false a.kind c.renew.ensures
+returns c = assembled (viewed c.args.mesh.now) c.args.out.now c.in_ok-check_sized.ensures c.args.kind c.renew.ensures

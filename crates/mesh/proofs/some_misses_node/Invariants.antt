@@ -1,14 +1,10 @@
--- No panel below `i` has passed the test; the first that does decides, and none does at the end.
+-- No panel below `i` has passed the test.
 use mathlib.Core.Path.{◌≡◌}
 use mathlib.Core.Bool.{false}
-use mathlib.Core.List.{[]}
-use Prim.Native.Nat.{ℕ, ◌≤◌, ◌<◌, ◌-◌}
-use lib.ListN.{length}
-use Rattle.mesh.specs.Mesh.{mesh_of, triangle_indices, misses_node}
+use Prim.Native.Nat.{ℕ, ◌<◌}
+use Rattle.mesh.specs.Columns.{viewed_panels}
+use Rattle.mesh.specs.Mesh.{triangle_indices, misses_node}
 use Rattle.mesh.proofs.some_misses_node.Given as goal
 
 abbrev pub invariant-loop-i : goal.invariant-loop-i
-invariant-loop-i l = (l.i ≤ length l.t0) × ((k : ℕ) → k < l.i → misses_node l.n (triangle_indices (mesh_of [] [] [] l.t0 l.t1 l.t2) k) ≡ false)
-
-abbrev pub decreases-loop-i : goal.decreases-loop-i
-decreases-loop-i l = length l.t0 - l.i
+invariant-loop-i l = (k : ℕ) → k < l.i → misses_node l.n (triangle_indices (viewed_panels l.panels) k) ≡ false

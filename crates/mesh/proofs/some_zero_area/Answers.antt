@@ -1,38 +1,27 @@
 -- No panel below `i` has passed the test; the first that does decides, and none does at the end.
 use mathlib.Core.Path.{◌≡◌, sym, ap, ◌∙◌}
-use Prim.Native.Nat.{ℕ, ◌<◌}
+use Prim.Native.Nat.{ℕ}
 use native.Mathlib.Omega.{arith}
-use borrow.Author.Count.{below_none, below_more}
-use borrow.Author.Rules.{rules}
-use lib.ListN.{length}
+use borrow.Author.Count.{below_more}
 use Rattle.lists.proofs.Counting.{some_at, none_below}
-use Rattle.mesh.specs.Mesh.{mesh_of, triangle_nodes, is_zero_area}
+use Rattle.mesh.specs.Columns.{viewed}
+use Rattle.mesh.specs.Mesh.{ntri, triangle_nodes, is_zero_area}
 use Rattle.mesh.proofs.some_zero_area.Goals as goal
-
-pub loop-i-init : goal.loop-i-init
-loop-i-init c = (omega arith, below_none _)
-
-pub triangle_nodes-requires : goal.triangle_nodes-requires
-triangle_nodes-requires c =
-    let h : c.loop-i.i < length c.args.t0.now = omega arith in
-    record { node_columns_alike = c.requires.node_columns_alike; panel_columns_alike = c.requires.panel_columns_alike; i_in_bounds = (h, c.requires.none_missing c.loop-i.i h) }
 
 pub returns-then-is_zero_area : goal.returns-then-is_zero_area
 returns-then-is_zero_area c =
-    let a = c.args in
+    let m = viewed c.args.mesh.now in
     let l = c.loop-i in
     let e = c.is_zero_area.ensures ∙ ap is_zero_area c.triangle_nodes.ensures in
-    sym (some_at (λ (i : ℕ). is_zero_area (triangle_nodes (mesh_of a.x.now a.y.now a.z.now a.t0.now a.t1.now a.t2.now) i)) (length a.t0.now) l.i (omega arith) (sym e ∙ c.if-is_zero_area.true))
+    sym (some_at (λ (i : ℕ). is_zero_area (triangle_nodes m i)) (ntri m) l.i (omega arith) (sym e ∙ c.if-is_zero_area.true))
 
 pub loop-i-preserved : goal.loop-i-preserved
 loop-i-preserved c =
-    let l = c.loop-i in
-    let e = c.is_zero_area.ensures ∙ ap is_zero_area c.triangle_nodes.ensures in
-    (search rules, below_more _ _ l.invariant.1 (sym e ∙ c.if-is_zero_area.false))
+    let e = c.is_zero_area.ensures ∙ ap is_zero_area c.triangle_nodes.ensures in below_more _ _ c.loop-i.invariant (sym e ∙ c.if-is_zero_area.false)
 
 pub returns : goal.returns
 returns c =
-    let a = c.args in
+    let m = viewed c.args.mesh.now in
     let l = c.loop-i in
-    let e : l.i ≡ length a.t0.now = omega arith in
-    sym (none_below (λ (i : ℕ). is_zero_area (triangle_nodes (mesh_of a.x.now a.y.now a.z.now a.t0.now a.t1.now a.t2.now) i)) (length a.t0.now) (rw e at l.invariant.1))
+    let e : l.i ≡ ntri m = omega arith in
+    sym (none_below (λ (i : ℕ). is_zero_area (triangle_nodes m i)) (ntri m) (rw e at l.invariant))

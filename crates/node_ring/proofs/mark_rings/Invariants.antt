@@ -1,19 +1,12 @@
--- As in `mark_ring`: the marks are those that were and the rings of the panels below `p`.
+-- The marks are those that were and the rings of the panels below `p`.
 use mathlib.Core.Path.{◌≡◌}
 use mathlib.Core.Bool.{◌||◌}
-use mathlib.Core.List.{[]}
-use Prim.Native.Nat.{ℕ, ◌≤◌, ◌-◌}
-use lib.ListN.{length}
+use Prim.Native.Nat.{ℕ}
 use Rattle.lists.specs.Counting.{some_below}
-use Rattle.mesh.specs.Mesh.{mesh_of}
+use Rattle.mesh.specs.Columns.{viewed_panels}
 use Rattle.scatter.specs.Renewal.{marked}
 use Rattle.node_ring.specs.Ring.{joins}
 use Rattle.node_ring.proofs.mark_rings.Given as goal
 
 abbrev pub invariant-loop-p : goal.invariant-loop-p
-invariant-loop-p l = (l.p ≤ length l.t0)
-    × (length l.marks ≡ length l.initial.marks)
-    × ((a : ℕ) → marked l.marks a ≡ (marked l.initial.marks a || some_below (joins (mesh_of [] [] [] l.t0 l.t1 l.t2) (marked l.changed) a) l.p))
-
-abbrev pub decreases-loop-p : goal.decreases-loop-p
-decreases-loop-p l = length l.t0 - l.p
+invariant-loop-p l = (a : ℕ) → marked l.marks a ≡ (marked l.initial.marks a || some_below (joins (viewed_panels l.panels) (marked l.changed) a) l.p)

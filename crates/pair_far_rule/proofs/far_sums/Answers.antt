@@ -6,43 +6,33 @@ use native.Mathlib.Omega.{arith}
 use Rattle.point_distances.proofs.Turns.{pairs_fit, row_fits}
 use Rattle.lists.specs.Sums.{running_sum}
 use Rattle.lists.proofs.Sums.{sum_more}
-use Rattle.lists.proofs.Indices.{index_fits}
 use Rattle.pair_far_rule.specs.Far.{forward_by, held_by, far_by}
 use Rattle.pair_far_rule.proofs.Points.{held_next}
 use Rattle.pair_far_rule.proofs.far_sums.Goals as goal
 
 pub loop-i-init : goal.loop-i-init
 unfolding running_sum held_by
-loop-i-init c = (omega arith, refl, refl)
+loop-i-init c = (refl, refl)
 
 pub overflow_mul-i : goal.overflow_mul-i
 overflow_mul-i c =
     let h : c.loop-i.i < c.args.count = omega arith in
-    omega (arith, row_fits c.loop-i.i c.args.count h, pairs_fit c.args.count c.requires)
+    omega (arith, row_fits c.loop-i.i c.args.count c.args.count h, pairs_fit c.args.count c.requires)
 
 pub share_row-requires : goal.share_row-requires
 share_row-requires c =
     let h : c.loop-i.i < c.args.count = omega arith in
-    (c.requires, le_trans (row_fits c.loop-i.i c.args.count h) (pairs_fit c.args.count c.requires))
+    (c.requires, le_trans (row_fits c.loop-i.i c.args.count c.args.count h) (pairs_fit c.args.count c.requires))
 
 pub loop-i-preserved : goal.loop-i-preserved
 unfolding forward_by
 loop-i-preserved c =
     let l = c.loop-i in
-    (omega arith, rw (sum_more, ← l.invariant.1, c.share_row.ensures.0), rw (held_next, ← l.invariant.2) c.share_row.ensures.1)
+    (rw (sum_more, ← l.invariant.0, c.share_row.ensures.0), rw (held_next, ← l.invariant.1) c.share_row.ensures.1)
 
 pub returns : goal.returns
 unfolding far_by
 returns c =
     let l = c.loop-i in
     let e : l.i ≡ c.args.count = omega arith in
-    rw (c.weighted.ensures, l.invariant.1, l.invariant.2, e)
-
-pub offset_bounds-pw-i : goal.offset_bounds-pw-i
-offset_bounds-pw-i c = index_fits (omega arith)
-
-pub offset_bounds-pw-i-in-loop-i : goal.offset_bounds-pw-i-in-loop-i
-offset_bounds-pw-i-in-loop-i c = index_fits (omega arith)
-
-pub overflow_step-i : goal.overflow_step-i
-overflow_step-i c = index_fits (omega arith)
+    rw (c.weighted.ensures, l.invariant.0, l.invariant.1, e)

@@ -1,37 +1,10 @@
--- After k turns the first k places have the coordinate of the first k points; a turn writes the next.
-use mathlib.Core.Path.{◌≡◌, refl}
-use native.Mathlib.Omega.{arith}
-use borrow.Author.Rules.{rules}
-use Rattle.lists.proofs.Indices.{index_fits}
+-- Each of the seven numbers is the definition's.
+use Rattle.std.proofs.Common.{rules, arith}
+use Rattle.std.proofs.lemmas.Grind.{common_steps}
 use Rattle.panel_points.specs.Points as Spec
-use Rattle.panel_points.proofs.Seven.{seven_more}
+use Rattle.panel_points.proofs.Seven.{seven_is}
 use Rattle.panel_points.proofs.along.Goals as goal
-
-pub loop-k-init : goal.loop-k-init
-unfolding Spec.seven
-loop-k-init c = (omega arith, refl)
-
-pub loop-k-preserved : goal.loop-k-preserved
-loop-k-preserved c = (search rules, rw (seven_more, ← c.loop-k.invariant.1))
 
 pub returns : goal.returns
 unfolding Spec.along
-returns c =
-    let l = c.loop-k in
-    let e : l.k ≡ 7 = omega arith in
-    rw (← e) l.invariant.1
-
-pub offset_bounds-first-k : goal.offset_bounds-first-k
-offset_bounds-first-k c = index_fits (omega arith)
-
-pub offset_bounds-second-k : goal.offset_bounds-second-k
-offset_bounds-second-k c = index_fits (omega arith)
-
-pub offset_bounds-third-k : goal.offset_bounds-third-k
-offset_bounds-third-k c = index_fits (omega arith)
-
-pub offset_bounds-out-k : goal.offset_bounds-out-k
-offset_bounds-out-k c = index_fits (omega arith)
-
-pub overflow_step-k : goal.overflow_step-k
-overflow_step-k c = index_fits (omega arith)
+returns c = seven_is _ _ (search rules) (grind (arith, common_steps))

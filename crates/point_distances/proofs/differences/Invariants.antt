@@ -1,13 +1,7 @@
--- After i turns the first i rows are in place; a row is a run of n turns (`row_next`).
-use mathlib.Core.Path.{◌≡◌}
-use Prim.Native.Nat.{◌-◌, ◌*◌, ◌≤◌}
-use lib.ListN.{length}
-use Rattle.lists.specs.Filling.{run}
-use Rattle.point_distances.specs.Distances.{difference}
+-- The first i rows are in place.
+use Rattle.std.proofs.Common.{◌≡◌, ℕ, ◌+◌, ◌*◌, ◌<◌}
+use Rattle.binary64.specs.Binary64.{at, ◌⊖◌}
 use Rattle.point_distances.proofs.differences.Given as goal
 
 abbrev pub invariant-loop-i : goal.invariant-loop-i
-invariant-loop-i l = (l.i ≤ l.n) × (length l.out ≡ length l.initial.out) × (l.out ≡ run l.initial.out 0 (l.n * l.n) (difference l.a l.x l.n) (l.i * l.n))
-
-abbrev pub decreases-loop-i : goal.decreases-loop-i
-decreases-loop-i l = l.n - l.i
+invariant-loop-i l = (h j : ℕ) → h < l.i → j < l.n → at l.out (h * l.n + j) ≡ at l.a h ⊖ at l.x j

@@ -1,12 +1,9 @@
--- After k turns the first k squares are in place, each the square of its vector's length or NaN.
-use Prim.Native.Nat.{ℕ, ◌-◌, ◌<◌}
-use Rattle.lists.proofs.Runs.{RunTo}
+-- The first k squares are in place.
+use Rattle.std.proofs.Common.{◌≡◌, ℕ, ◌<◌, length}
+use Rattle.binary64.specs.Binary64.{at}
 use Rattle.length_lanes.specs.Length.{SquareOf}
-use Rattle.point_distances.specs.Distances.{point, square_at}
+use Rattle.point_distances.specs.Distances.{vector}
 use Rattle.point_distances.proofs.square_lanes.Given as goal
 
 abbrev pub invariant-loop-k : goal.invariant-loop-k
-invariant-loop-k l = RunTo l.initial.out 0 l.count (square_at l.x l.y l.z) l.k l.out × ((j : ℕ) → j < l.k → SquareOf (point l.x l.y l.z j) (square_at l.x l.y l.z j))
-
-abbrev pub decreases-loop-k : goal.decreases-loop-k
-decreases-loop-k l = l.count - l.k
+invariant-loop-k l = (length l.out ≡ 49) × ((j : ℕ) → j < l.k → SquareOf (vector l.v j) (at l.out j))

@@ -1,47 +1,14 @@
--- As in distances_from_plane: a turn writes the next denominator.
-use native.Mathlib.Omega.{arith}
-use Rattle.lists.proofs.Indices.{index_fits}
-use Rattle.lists.proofs.Filled.{filled_start, filled_next, filled_all}
+-- Lengths and inner products, by their contracts.
 use Rattle.potential_lanes.proofs.denominators.Goals as goal
 
-pub loop-i-preserved : goal.loop-i-preserved
-loop-i-preserved c =
-    filled_next (omega arith)
-    (rw (c.denominator.ensures, c.sub3-r2.ensures, c.sub3-r1.ensures, c.sub3-r0.ensures))
-    c.loop-i.invariant
-
-pub loop-i-init : goal.loop-i-init
-loop-i-init c = filled_start (omega arith)
-
-pub offset_bounds-x-i : goal.offset_bounds-x-i
-offset_bounds-x-i c = index_fits (omega arith)
-
-pub offset_bounds-y-i : goal.offset_bounds-y-i
-offset_bounds-y-i c = index_fits (omega arith)
-
-pub offset_bounds-z-i : goal.offset_bounds-z-i
-offset_bounds-z-i c = index_fits (omega arith)
-
-pub offset_bounds-n-i : goal.offset_bounds-n-i
-offset_bounds-n-i c = index_fits (omega arith)
-
-pub overflow_add-i : goal.overflow_add-i
-overflow_add-i c = index_fits (omega arith)
-
-pub offset_bounds-n-i-in-loop-i : goal.offset_bounds-n-i-in-loop-i
-offset_bounds-n-i-in-loop-i c = index_fits (omega arith)
-
-pub overflow_add-i-in-loop-i : goal.overflow_add-i-in-loop-i
-overflow_add-i-in-loop-i c = index_fits (omega arith)
-
-pub offset_bounds-n-i-in-loop-i-2 : goal.offset_bounds-n-i-in-loop-i-2
-offset_bounds-n-i-in-loop-i-2 c = index_fits (omega arith)
-
-pub offset_bounds-out-i : goal.offset_bounds-out-i
-offset_bounds-out-i c = index_fits (omega arith)
-
-pub overflow_step-i : goal.overflow_step-i
-overflow_step-i c = index_fits (omega arith)
-
 pub returns : goal.returns
-returns c = filled_all (omega arith) c.loop-i.invariant
+returns c i m =
+    rw (
+      c.denominators_of.ensures i m,
+      c.lengths.ensures i m,
+      c.lengths-2.ensures i m,
+      c.lengths-3.ensures i m,
+      c.inner_products.ensures i m,
+      c.inner_products-2.ensures i m,
+      c.inner_products-3.ensures i m,
+    )

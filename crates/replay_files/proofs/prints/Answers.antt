@@ -5,4 +5,4 @@ use Rattle.replay_files.proofs.prints.Goals as goal
 
 pub returns : goal.returns
 unfolding prints
-returns c = rw (printed _ _ _ _ c.density_text-k.ensures.put) at c.same_bytes.ensures
+returns c = rw (printed _ _ _ _ c.density_text-k.ensures.put) at c.eq.ensures

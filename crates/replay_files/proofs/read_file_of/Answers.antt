@@ -10,4 +10,4 @@ read_panels_into-requires c = search (rules, at_most)
 pub returns : goal.returns
 unfolding read_file_of
 returns c =
-    rw (← c.length_at-nx.ensures.0, ← c.length_at-ny.ensures.0, ← c.length_at-nz.ensures.0) c.read_panels_into.ensures
+    rw (← c.cut_at-nx.ensures.0, ← c.cut_at-ny.ensures.0, ← c.cut_at-nz.ensures.0) c.read_panels_into.ensures

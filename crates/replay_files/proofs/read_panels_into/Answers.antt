@@ -10,4 +10,4 @@ read_file_into-requires c = search (rules, at_most)
 pub returns : goal.returns
 unfolding read_panels_into
 returns c =
-    rw (← c.length_at-n0.ensures.0, ← c.length_at-n1.ensures.0, ← c.length_at-n2.ensures.0) c.read_file_into.ensures
+    rw (← c.cut_at-n0.ensures.0, ← c.cut_at-n1.ensures.0, ← c.cut_at-n2.ensures.0) c.read_file_into.ensures

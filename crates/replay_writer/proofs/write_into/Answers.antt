@@ -5,5 +5,5 @@ use Rattle.replay_writer.proofs.write_into.Goals as goal
 pub returns : goal.returns
 unfolding write_into
 returns c =
-    let e = c.write_panel_file-refusal.ensures in
-    rw (← e.number, ← e.bytes, ← c.same_word-a.ensures, ← c.held_bytes-b.ensures)
+    let e = c.write_panel_file-outcome.ensures in
+    rw (← e.number, ← e.bytes, ← c.same_refusal-a.ensures, ← c.held_bytes-b.ensures)

@@ -2,12 +2,12 @@
 use Rattle.scatter.proofs.Steps.{one_made, none_made}
 use Rattle.scatter.proofs.add_named.Goals as goal
 
-pub returns-then-marks-row : goal.returns-then-marks-row
-returns-then-marks-row c =
+pub returns-then-nodes-row : goal.returns-then-nodes-row
+returns-then-nodes-row c =
     let a = c.args in
-    one_made a.marks.now a.n a.out.now a.row a.col a.v c.if-marks-row.true c.add_at.ensures
+    one_made a.nodes.now.marks.now a.nodes.now.count a.out.now a.row a.col a.v c.if-nodes-row.true c.add_at.ensures
 
-pub returns-else-marks-row : goal.returns-else-marks-row
-returns-else-marks-row c =
+pub returns-else-nodes-row : goal.returns-else-nodes-row
+returns-else-nodes-row c =
     let a = c.args in
-    none_made a.marks.now a.n a.out.now a.row a.col a.v c.if-marks-row.false
+    none_made a.nodes.now.marks.now a.nodes.now.count a.out.now a.row a.col a.v c.if-nodes-row.false

@@ -6,7 +6,7 @@ use Rattle.scatter.proofs.Rows.{RowRenewed}
 use Rattle.scatter.proofs.clear_row.Given as goal
 
 abbrev pub invariant-loop-col : goal.invariant-loop-col
-invariant-loop-col l = RowRenewed (marked l.marks) (λ a b. plus_zero) l.n l.initial.out l.row l.out l.col
+invariant-loop-col l = RowRenewed (marked l.nodes.set.marks.now) (λ a b. plus_zero) l.nodes.set.count l.initial.out l.row l.out l.col
 
 abbrev pub decreases-loop-col : goal.decreases-loop-col
-decreases-loop-col l = l.n - l.col
+decreases-loop-col l = l.nodes.set.count - l.col

@@ -6,7 +6,7 @@ use Rattle.scatter.proofs.Rows.{RowRenewed}
 use Rattle.scatter.proofs.copy_row_below.Given as goal
 
 abbrev pub invariant-loop-a : goal.invariant-loop-a
-invariant-loop-a l = RowRenewed (marked l.marks) (mirrored (cells_of l.n l.initial.out)) l.n l.initial.out l.b l.out l.a
+invariant-loop-a l = RowRenewed (marked l.nodes.set.marks.now) (mirrored (cells_of l.nodes.set.count l.initial.out)) l.nodes.set.count l.initial.out l.b l.out l.a
 
 abbrev pub decreases-loop-a : goal.decreases-loop-a
-decreases-loop-a l = l.n - l.a
+decreases-loop-a l = l.nodes.set.count - l.a

@@ -1,38 +1,44 @@
 -- A refusal leaves everything as it was; a drop that is done has a store of the due size and a place below eight, whose mark is written.
-use mathlib.Core.Path.{◌≡◌, sym, ◌∙◌}
-use Rattle.mesh.specs.Mesh.{Mesh, mesh_of, nnode}
-use Rattle.shape_store.specs.Store.{Store, store_of, drop_refusal}
-use Rattle.shape_store.specs.Conditions.{StoreSized}
-use Rattle.shape_store.proofs.Calls.{store-accepted, drop-accepted, drop_stopped, drop_unknown, drop_known, drop-done}
+use mathlib.Core.Path.{◌≡◌, refl, sym, ◌∙◌}
+use native.Mathlib.Omega.{arith}
+use Rattle.std.proofs.lemmas.Result.{err_from_is_err_and}
+use Rattle.lists.proofs.First.{next_bounds}
+use Rattle.refusal.proofs.Outcome.{never_0}
+use Rattle.mesh.specs.Mesh.{Mesh}
+use Rattle.mesh.specs.Columns.{viewed}
+use Rattle.shape_store.specs.Store.{Store, with_shapes, places, holds_name, place_of, drop_refusal}
+use Rattle.shape_store.proofs.Calls.{store-accepted, drop_stopped, drop_unknown, drop_known, drop-done}
+use Rattle.shape_store.proofs.Found.{none_told, place_told}
 use Rattle.shape_store.proofs.drop_shape.Goals as goal
 
-pub returns-then-refusal-ne0 : goal.returns-then-refusal-ne0
-returns-then-refusal-ne0 c = drop_stopped _ _ _ _ c.store_refusal-refusal.ensures c.if-refusal-ne0.true
+pub returns-in_err-check_store : goal.returns-in_err-check_store
+returns-in_err-check_store c =
+    let p = err_from_is_err_and c.from_residual.result c.from_residual.ensures.1 in
+    rw (p.1, p.2) (drop_stopped _ _ _ _ c.in_err-check_store.ensures (never_0 _))
 
-pub find_name-p-requires : goal.find_name-p-requires
-find_name-p-requires c =
-    let lent : Mesh = let a = c.args in mesh_of a.x.now a.y.now a.z.now a.t0.now a.t1.now a.t2.now in
-    let store : Store = let a = c.args in store_of a.marks.now a.names.now a.sx.now a.sy.now a.sz.now in
-    let sized : StoreSized (nnode lent) store = (store-accepted lent store c.args.name.now _ c.store_refusal-refusal.ensures c.if-refusal-ne0.false).1 in
-    let k = sized in (k.marks-long, k.names-long)
+pub find_name-requires : goal.find_name-requires
+find_name-requires c =
+    let a = c.args in
+    let k = (store-accepted (viewed a.mesh.now) (with_shapes a.marks.now a.names.now a.shapes.now) a.name.now 0 c.in_ok-check_store.ensures refl).1 in
+    (k.marks-long, k.names-long)
 
-pub returns-then-p-eq-PLACES : goal.returns-then-p-eq-PLACES
-returns-then-p-eq-PLACES c =
-    let lent : Mesh = let a = c.args in mesh_of a.x.now a.y.now a.z.now a.t0.now a.t1.now a.t2.now in
-    let store : Store = let a = c.args in store_of a.marks.now a.names.now a.sx.now a.sy.now a.sz.now in
-    drop_unknown lent store c.args.name.now _ c.store_refusal-refusal.ensures c.if-refusal-ne0.false (sym c.find_name-p.ensures ∙ c.if-p-eq-PLACES.true)
+pub returns-in_default : goal.returns-in_default
+returns-in_default c =
+    let a = c.args in
+    let store : Store = with_shapes a.marks.now a.names.now a.shapes.now in
+    drop_unknown (viewed a.mesh.now) store a.name.now 0 c.in_ok-check_store.ensures refl (none_told _ (next_bounds (holds_name store a.name.now) 0 places).1 (sym c.find_name.ensures ∙ c.in_default.is))
 
 pub bounds-marks-p : goal.bounds-marks-p
 bounds-marks-p c =
-    let lent : Mesh = let a = c.args in mesh_of a.x.now a.y.now a.z.now a.t0.now a.t1.now a.t2.now in
-    let store : Store = let a = c.args in store_of a.marks.now a.names.now a.sx.now a.sy.now a.sz.now in
-    let sized : StoreSized (nnode lent) store = (store-accepted lent store c.args.name.now _ c.store_refusal-refusal.ensures c.if-refusal-ne0.false).1 in
-    let known : drop_refusal lent store c.args.name.now ≡ 0 = drop_known lent store c.args.name.now _ c.store_refusal-refusal.ensures c.if-refusal-ne0.false (λ q. c.if-p-eq-PLACES.false (c.find_name-p.ensures ∙ q)) in
-    rw (c.find_name-p.ensures, sized.marks-long) (drop-accepted lent store c.args.name.now known).2
+    let a = c.args in
+    let k = (store-accepted (viewed a.mesh.now) (with_shapes a.marks.now a.names.now a.shapes.now) a.name.now 0 c.in_ok-check_store.ensures refl).1 in
+    rw k.marks-long (place_told _ c.in-Some.p (sym c.find_name.ensures ∙ c.in-Some.is)).1
 
 pub returns : goal.returns
 returns c =
-    let lent : Mesh = let a = c.args in mesh_of a.x.now a.y.now a.z.now a.t0.now a.t1.now a.t2.now in
-    let store : Store = let a = c.args in store_of a.marks.now a.names.now a.sx.now a.sy.now a.sz.now in
-    let known : drop_refusal lent store c.args.name.now ≡ 0 = drop_known lent store c.args.name.now _ c.store_refusal-refusal.ensures c.if-refusal-ne0.false (λ q. c.if-p-eq-PLACES.false (c.find_name-p.ensures ∙ q)) in
-    drop-done lent store c.args.name.now _ known c.find_name-p.ensures
+    let a = c.args in
+    let lent : Mesh = viewed a.mesh.now in
+    let store : Store = with_shapes a.marks.now a.names.now a.shapes.now in
+    let t = place_told (place_of store a.name.now) c.in-Some.p (sym c.find_name.ensures ∙ c.in-Some.is) in
+    let known : drop_refusal lent store a.name.now ≡ 0 = drop_known lent store a.name.now 0 c.in_ok-check_store.ensures refl (λ q. absurd (omega (arith, q, t.0, t.1))) in
+    drop-done lent store a.name.now c.in-Some.p known (sym t.0)

@@ -2,12 +2,9 @@
 use mathlib.Core.Path.{◌≡◌}
 use mathlib.Core.Bool.{false}
 use mathlib.Core.List.{[]}
-use Prim.Native.Nat.{ℕ, ◌≤◌, ◌<◌, ◌-◌}
-use Rattle.shape_store.specs.Store.{store_of, places, holds_name}
+use Prim.Native.Nat.{ℕ, ◌<◌}
+use Rattle.shape_store.specs.Store.{store_of, holds_name}
 use Rattle.shape_store.proofs.find_name.Given as goal
 
 abbrev pub invariant-loop-p : goal.invariant-loop-p
-invariant-loop-p l = (l.p ≤ places) × ((k : ℕ) → k < l.p → holds_name (store_of l.marks l.names [] [] []) l.name k ≡ false)
-
-abbrev pub decreases-loop-p : goal.decreases-loop-p
-decreases-loop-p l = places - l.p
+invariant-loop-p l = (k : ℕ) → k < l.p → holds_name (store_of l.marks l.names [] [] []) l.name k ≡ false

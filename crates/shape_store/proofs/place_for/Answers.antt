@@ -1,9 +1,11 @@
 -- The name's own place if there is one, else the first free one, as the definition has it.
-use borrow.Author.Tests.{eq-eqb, ne_eqb}
+use mathlib.Core.Path.{sym, ◌∙◌}
+use mathlib.Core.List.{[]}
+use Rattle.shape_store.specs.Store.{store_of}
+use Rattle.shape_store.proofs.Found.{name_lacked, free_found}
 use Rattle.shape_store.proofs.place_for.Goals as goal
 
-pub returns-then-found-eq-PLACES : goal.returns-then-found-eq-PLACES
-returns-then-found-eq-PLACES c = rw (← c.find_name-found.ensures, eq-eqb _ _ c.if-found-eq-PLACES.true) c.find_free.ensures
-
-pub returns : goal.returns
-returns c = rw (← c.find_name-found.ensures, ne_eqb _ _ c.if-found-eq-PLACES.false)
+pub returns-in-None : goal.returns-in-None
+returns-in-None c =
+    let a = c.args in
+    rw (name_lacked (store_of a.marks.now a.names.now [] [] []) a.name.now (sym c.find_name.ensures ∙ c.in-None.is)) (c.find_free.ensures ∙ free_found a.marks.now c.requires.0)

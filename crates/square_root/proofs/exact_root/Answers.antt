@@ -4,7 +4,6 @@ use lib.Ieee.{Float, binary64, of_bits, to_bits, fits}
 use lib.Ieee.Bits.{of_bits-to_bits, to_bits-lt}
 use lib.Ieee.Compare.{differs_from_itself}
 use Rattle.binary64.specs.Operations.{square_root, sqrt}
-use Rattle.binary64.proofs.Pattern.{self_equal, no_nan}
 use Rattle.square_root.proofs.Special.{own_root, zero_root, minus_zero_root, infinity_root, nan-root, no_root, zero_over_zero}
 use Rattle.binary64.proofs.Root.Value.{sqrt_fits}
 use Rattle.binary64.specs.Format.{infinity_bits}
@@ -14,17 +13,11 @@ pub returns-then-x : goal.returns-then-x
 unfolding sqrt
 returns-then-x c = nan-root c.args.x (differs_from_itself c.args.x (subst T (sym c.if-x.true) tt))
 
-pub float_to_bits-b : goal.float_to_bits-b
-float_to_bits-b c = self_equal c.args.x c.if-x.false
-
 pub returns-then-b-eq0 : goal.returns-then-b-eq0
 unfolding sqrt
 returns-then-b-eq0 c =
     let held : T (fits binary64 c.args.x) = subst T (sym c.well_formed.0.1) tt in
     let x = c.args.x in own_root x 0 held (omega arith) zero_root
-
-pub float_from_bits-result : goal.float_from_bits-result
-float_from_bits-result c = no_nan c.exact_root_bits.result (omega arith)
 
 pub returns-then-b-lt-INFINITY_BITS : goal.returns-then-b-lt-INFINITY_BITS
 unfolding sqrt

@@ -17,9 +17,9 @@ near_root-r-requires c =
     let e : d % 2 < 2 = omega arith in
     subst Scaled (sym (shl_twice (t * 2 ^ z) (d % 2) l h e)) (scaled (t * 2 ^ z) (d % 2) l h e)
 
-pub returns : goal.returns
+pub returns-clause-value : goal.returns-clause-value
 unfolding sqrt
-returns c =
+returns-clause-value c =
     let b = c.args.b in
     let t = c.significand-t.result in
     let z = c.shift-z.result in
@@ -35,10 +35,8 @@ returns c =
     let te : t ≡ significand_of b = c.significand-t.ensures.value in
     let ke : k ≡ exponent_of b = c.exponent.ensures in
     let tp : 0 < t = c.significand-t.ensures.result_nonzero.0 in
-    let ek : d + z ≡ exponent_of b + 52 = omega arith in record {
-      upper_bound = omega arith;
-      value = sym (root_law b z d r (omega arith) (subst (λ (x : ℕ). 0 < x) te tp) ek
-          (subst (λ (x : ℕ). Scaled (x * 2 ^ z * 2 ^ (d % 2))) te (scaled (t * 2 ^ z) (d % 2) l h e))
-          dg
-          (subst (λ (x : ℕ). NearRoot (x * 2 ^ z * 2 ^ (d % 2) * 2 ^ 52) r) te nr));
-    }
+    let ek : d + z ≡ exponent_of b + 52 = omega arith in
+    sym (root_law b z d r (omega arith) (subst (λ (x : ℕ). 0 < x) te tp) ek
+    (subst (λ (x : ℕ). Scaled (x * 2 ^ z * 2 ^ (d % 2))) te (scaled (t * 2 ^ z) (d % 2) l h e))
+    dg
+    (subst (λ (x : ℕ). NearRoot (x * 2 ^ z * 2 ^ (d % 2) * 2 ^ 52) r) te nr))

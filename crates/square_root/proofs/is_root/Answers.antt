@@ -1,6 +1,6 @@
--- What is below the exponent of the root is none; else what is beyond it decides.
+-- What c has beyond the exponent of the root decides; the shift to an even place loses nothing (`word`).
 use Rattle.std.proofs.Common.{◌≡◌, ℕ, ◌+◌, ◌-◌, ◌*◌, ◌/◌, ◌%◌, ◌^◌, sym, ap, ◌∙◌, subst, arith}
-use Rattle.square_root.proofs.Test.{below-exponent, from-exponent}
+use Rattle.square_root.proofs.Test.{from-exponent}
 use Rattle.binary64.proofs.Root.Pattern.{scaled}
 use Rattle.square_root.proofs.Words.{shl_once}
 use Rattle.binary64.specs.Nearest.{Scaled}
@@ -12,13 +12,10 @@ use Rattle.square_root.proofs.is_root.Goals as goal
 word : (b : ℕ) → (2 ^ 52 + b % 2 ^ 52) * 2 ^ ((b / 2 ^ 52 + bias) % 2) % 2 ^ 64 ≡ (2 ^ 52 + b % 2 ^ 52) * 2 ^ ((b / 2 ^ 52 + bias) % 2)
 word b = shl_once (2 ^ 52 + b % 2 ^ 52) ((b / 2 ^ 52 + bias) % 2) (omega arith) (omega arith) (omega arith)
 
-pub returns-then-c-k : goal.returns-then-c-k
-returns-then-c-k c = let a = c.args in below-exponent a.b a.c (omega arith)
-
-pub is_near_root-requires : goal.is_near_root-requires
-is_near_root-requires c =
+pub is_near_root-requires-clause-scaled : goal.is_near_root-requires-clause-scaled
+is_near_root-requires-clause-scaled c =
     let b = c.args.b in
-    record { scaled = subst Scaled (sym (word b)) (scaled (2 ^ 52 + b % 2 ^ 52) ((b / 2 ^ 52 + bias) % 2) (omega arith) (omega arith) (omega arith)); r_bound = omega arith }
+    subst Scaled (sym (word b)) (scaled (2 ^ 52 + b % 2 ^ 52) ((b / 2 ^ 52 + bias) % 2) (omega arith) (omega arith) (omega arith))
 
 pub returns : goal.returns
 returns c =

@@ -8,20 +8,18 @@ use Rattle.coupling.proofs.coupling.triangle_scalar_potential_regular.Goals as g
 
 pub loop-k-init : goal.loop-k-init
 unfolding running_sum
-loop-k-init c = (omega arith, refl)
+loop-k-init c = refl
 
 pub quadrature_row-requires : goal.quadrature_row-requires
-quadrature_row-requires c = rw (← c.quadrature_count-count.ensures) c.loop-k-test.true
+quadrature_row-requires c = rw (← c.quadrature_count-k-end.ensures) c.loop-k-test.true
 
 pub loop-k-preserved : goal.loop-k-preserved
-loop-k-preserved c =
-    let l = c.loop-k in
-    (omega arith, rw (sum_more, ← l.invariant.1, c.potential_row-out.ensures, c.quadrature_row.ensures))
+loop-k-preserved c = rw (sum_more, ← c.loop-k.invariant, c.potential_row-out.ensures, c.quadrature_row.ensures)
 
 pub returns : goal.returns
 unfolding Spec.triangle_scalar_potential_regular
 returns c =
     let l = c.loop-k in
-    let n = c.quadrature_count-count in
+    let n = c.quadrature_count-k-end in
     let e : l.k ≡ n.result = omega arith in
-    rw (l.invariant.1, e, n.ensures, c.area-source_area.ensures)
+    rw (l.invariant, e, n.ensures, c.area-source_area.ensures)

@@ -1,21 +1,22 @@
--- `out` is x with the first j products added.
-use mathlib.Core.Path.{◌≡◌, refl}
+-- Each turn adds the product at its place, and there are as many turns as targets.
+use mathlib.Core.Path.{◌≡◌}
 use native.Mathlib.Omega.{arith}
 use borrow.Author.Rules.{rules}
-use lib.ListN.{length}
-use Rattle.lists.specs.Sums.{running_sum}
+use lib.ListN.{length, length-append}
+use lib.Ieee.{nan}
+use Rattle.std.proofs.lemmas.Slice.Zip.{zip_turn, zip_end}
 use Rattle.lists.proofs.Sums.{sum_more}
 use Rattle.linkage.proofs.energy.add_row.Goals as goal
 
-pub loop-j-init : goal.loop-j-init
-unfolding running_sum
-loop-j-init c = (search rules, refl)
-
-pub loop-j-preserved : goal.loop-j-preserved
-loop-j-preserved c = (search rules, rw (sum_more, ← c.loop-j.invariant.1))
+pub loop-entry-preserved : goal.loop-entry-preserved
+loop-entry-preserved c =
+    let l = c.loop-entry in
+    let t = zip_turn c.args.row.now c.args.t.now l.yielded c.into_iter-entry-iterator.result l.entry-iterator c.next.new.self c.next.result (search rules) (search rules) l.yielded_by (c.in-Some.entry, c.in-Some.target) c.in-Some.is c.next.ensures.steps in
+    simp length-append (rw (sum_more, t.2 nan, t.3 nan, ← l.invariant))
 
 pub returns : goal.returns
 returns c =
-    let l = c.loop-j in
-    let e : l.j ≡ length c.args.s.now = omega arith in
-    rw (← e) l.invariant.1
+    let l = c.loop-entry in
+    let t = zip_end c.args.row.now c.args.t.now l.yielded c.into_iter-entry-iterator.result l.entry-iterator c.next.new.self c.next.result (search rules) (search rules) l.yielded_by c.in-None.is c.next.ensures.steps in
+    let e : length l.yielded ≡ length c.args.t.now = omega (arith, t, c.requires) in
+    rw (← e) l.invariant

@@ -1,12 +1,9 @@
--- `out` is x with the first j products added.
+-- `out` is x with as many products added as there were turns.
 use mathlib.Core.Path.{◌≡◌}
-use Prim.Native.Nat.{◌≤◌, ◌-◌}
 use lib.ListN.{length}
-use Rattle.linkage.specs.Energy.{row_added}
+use Rattle.binary64.specs.Binary64.{◌⊗◌, at}
+use Rattle.lists.specs.Sums.{running_sum}
 use Rattle.linkage.proofs.energy.add_row.Given as goal
 
-abbrev pub invariant-loop-j : goal.invariant-loop-j
-invariant-loop-j l = (l.j ≤ length l.s) × (l.out ≡ row_added l.row l.s l.t l.i l.x l.j)
-
-abbrev pub decreases-loop-j : goal.decreases-loop-j
-decreases-loop-j l = length l.s - l.j
+abbrev pub invariant-loop-entry : goal.invariant-loop-entry
+invariant-loop-entry l = l.out ≡ running_sum l.x (λ j. l.source ⊗ at l.row j ⊗ at l.t j) (length l.yielded)

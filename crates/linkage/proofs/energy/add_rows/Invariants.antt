@@ -1,12 +1,7 @@
 -- `out` is the sum of the first i rows.
 use mathlib.Core.Path.{◌≡◌}
-use Prim.Native.Nat.{◌≤◌, ◌-◌}
-use lib.ListN.{length}
 use Rattle.linkage.specs.Energy.{rows_added}
 use Rattle.linkage.proofs.energy.add_rows.Given as goal
 
 abbrev pub invariant-loop-i : goal.invariant-loop-i
-invariant-loop-i l = (l.i ≤ length l.s) × (l.out ≡ rows_added l.matrix l.s l.t l.i)
-
-abbrev pub decreases-loop-i : goal.decreases-loop-i
-decreases-loop-i l = length l.s - l.i
+invariant-loop-i l = l.out ≡ rows_added l.matrix l.s l.t l.i

@@ -11,11 +11,8 @@ unfolding Spec.less_solid_angle Spec.signed_solid_angle
 returns-then-d-value c =
     let held-value : T (fits binary64 c.args.value) = subst T (sym c.well_formed.1.1.1.0.1) tt in
     rw (
-      ← c.vector.ensures,
       ← c.sub3-r0.ensures,
-      ← c.vector-2.ensures,
       ← c.sub3-r1.ensures,
-      ← c.vector-3.ensures,
       ← c.sub3-r2.ensures,
     )
     (left_out c.sub3-r0.result c.sub3-r1.result c.sub3-r2.result c.args.d c.args.value held-value
@@ -27,9 +24,6 @@ returns c =
     rw (
       c.solid_angle.ensures,
       c.sub3-r2.ensures,
-      c.vector-3.ensures,
       c.sub3-r1.ensures,
-      c.vector-2.ensures,
       c.sub3-r0.ensures,
-      c.vector.ensures,
     )

@@ -1,15 +1,10 @@
--- The array is filled from the front.
+-- Each element is what the closure gives of its index.
 use Rattle.std.proofs.Common.{rules}
-use Rattle.replay_cases.specs.Case.{numbers_of}
-use Rattle.replay_cases.proofs.Unpacked.{start, one_more, whole}
+use Rattle.std.specs.Float.{nan}
+use Rattle.replay_cases.specs.Case.{numbers_of, number_at}
+use Rattle.replay_cases.proofs.Made.{tabulate-made}
 use Rattle.replay_cases.proofs.case.numbers.Goals as goal
-
-pub loop-i-init : goal.loop-i-init
-loop-i-init c = start (search rules)
-
-pub loop-i-preserved : goal.loop-i-preserved
-loop-i-preserved c = one_more _ c.loop-i.invariant c.loop-i-test.true c.number_at.ensures
 
 pub returns : goal.returns
 unfolding numbers_of
-returns c = whole c.loop-i.invariant c.loop-i-test.false
+returns c = tabulate-made _ (number_at c.args.w.now) nan (λ i y q k. (search rules, search rules)) c.from_fn.ensures.items

@@ -1,15 +1,9 @@
--- The array is filled from the front.
+-- Each element is what the closure gives of its index.
 use Rattle.std.proofs.Common.{rules}
-use Rattle.replay_cases.specs.Case.{places_of}
-use Rattle.replay_cases.proofs.Unpacked.{start, one_more, whole}
+use Rattle.replay_cases.specs.Case.{places_of, place_at}
+use Rattle.replay_cases.proofs.Made.{tabulate-made}
 use Rattle.replay_cases.proofs.case.places.Goals as goal
-
-pub loop-i-init : goal.loop-i-init
-loop-i-init c = start (search rules)
-
-pub loop-i-preserved : goal.loop-i-preserved
-loop-i-preserved c = one_more _ c.loop-i.invariant c.loop-i-test.true c.place_at.ensures
 
 pub returns : goal.returns
 unfolding places_of
-returns c = whole c.loop-i.invariant c.loop-i-test.false
+returns c = tabulate-made _ (place_at c.args.w.now) 0 (λ i y q k. (search rules, search rules)) c.from_fn.ensures.items

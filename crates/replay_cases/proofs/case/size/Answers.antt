@@ -1,22 +1,27 @@
--- The three exits are the definition's cases.
-use Rattle.std.proofs.Common.{arith, le-ltb, lt-ltb}
+-- The sum is within the bound, past it, or past a word.
+use Rattle.std.proofs.Common.{◌≡◌, ◌+◌, Some, ap, arith, le-ltb, lt-ltb}
 use Rattle.replay_words.specs.Words.{size_of}
 use Rattle.replay_cases.proofs.case.size.Goals as goal
 
-pub little_endian-inputs-requires : goal.little_endian-inputs-requires
-little_endian-inputs-requires c = (omega arith, omega arith)
-
-pub little_endian-results-requires : goal.little_endian-results-requires
-little_endian-results-requires c = (omega arith, omega arith)
-
-pub returns-then-inputs-gt2048 : goal.returns-then-inputs-gt2048
+pub returns-in-Some-clause-value : goal.returns-in-Some-clause-value
 unfolding size_of
-returns-then-inputs-gt2048 c = record { value = rw (← c.little_endian-inputs.ensures.value, lt-ltb _ _ c.if-inputs-gt2048.true); upper_bound = omega arith }
+returns-in-Some-clause-value c =
+    let i = c.little_endian-inputs in
+    let r = c.little_endian-results in
+    let e : c.in-Some.size ≡ i.result + r.result = c.in-Some.ensures.1 in
+    rw (← i.ensures.value, ← r.ensures.value, le-ltb 2048 (i.result + r.result) (omega arith)) (ap Some e)
 
-pub returns-then-results-inputs : goal.returns-then-results-inputs
+pub returns-in_default-clause-value : goal.returns-in_default-clause-value
 unfolding size_of
-returns-then-results-inputs c = record { value = rw (← c.little_endian-inputs.ensures.value, ← c.little_endian-results.ensures.value, le-ltb _ _ c.if-inputs-gt2048.false, lt-ltb _ _ c.if-results-inputs.true); upper_bound = omega arith }
+returns-in_default-clause-value c =
+    let i = c.little_endian-inputs in
+    let r = c.little_endian-results in
+    let e : c.in-Some.size ≡ i.result + r.result = c.in-Some.ensures.1 in
+    rw (← i.ensures.value, ← r.ensures.value, lt-ltb 2048 (i.result + r.result) (omega arith))
 
-pub returns : goal.returns
+pub returns-in_default-2-clause-value : goal.returns-in_default-2-clause-value
 unfolding size_of
-returns c = record { value = rw (← c.little_endian-inputs.ensures.value, ← c.little_endian-results.ensures.value, le-ltb _ _ c.if-inputs-gt2048.false, le-ltb _ _ c.if-results-inputs.false); upper_bound = omega arith }
+returns-in_default-2-clause-value c =
+    let i = c.little_endian-inputs in
+    let r = c.little_endian-results in
+    rw (← i.ensures.value, ← r.ensures.value, lt-ltb 2048 (i.result + r.result) (omega (arith, c.in_default.ensures)))

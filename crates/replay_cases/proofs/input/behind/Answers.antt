@@ -3,17 +3,14 @@ use Rattle.std.proofs.Common.{le-ltb, lt-ltb}
 use Rattle.replay_cases.specs.Case.{kind_of}
 use Rattle.replay_cases.proofs.input.behind.Goals as goal
 
-pub returns-then-kind-gt127 : goal.returns-then-kind-gt127
+pub returns-then-kind-gt127-clause-value : goal.returns-then-kind-gt127-clause-value
 unfolding kind_of
-returns-then-kind-gt127 c = rw (← c.kind-kind.ensures, lt-ltb _ _ c.if-kind-gt127.true) c.none.ensures.0
+returns-then-kind-gt127-clause-value c = rw (← c.kind-kind.ensures, lt-ltb _ _ c.if-kind-gt127.true)
 
-pub returns-then-size-gt2048 : goal.returns-then-size-gt2048
+pub returns-in_err-size-clause-value : goal.returns-in_err-size-clause-value
 unfolding kind_of
-returns-then-size-gt2048 c = rw (← c.kind-kind.ensures, ← c.size-size.ensures.value, le-ltb _ _ c.if-kind-gt127.false, lt-ltb _ _ c.if-size-gt2048.true) c.none-then-size-gt2048.ensures.0
+returns-in_err-size-clause-value c = rw (← c.kind-kind.ensures, le-ltb _ _ c.if-kind-gt127.false, ← c.size.ensures.value, c.in_err-size.was, c.from_residual.ensures)
 
-pub returns : goal.returns
+pub returns-clause-value : goal.returns-clause-value
 unfolding kind_of
-returns c = rw (← c.kind-kind.ensures, ← c.size-size.ensures.value, le-ltb _ _ c.if-kind-gt127.false, le-ltb _ _ c.if-size-gt2048.false)
-
-pub bytes-requires : goal.bytes-requires
-bytes-requires c = c.if-size-gt2048.false
+returns-clause-value c = rw (← c.kind-kind.ensures, le-ltb _ _ c.if-kind-gt127.false, ← c.size.ensures.value, c.in_ok-size.was)

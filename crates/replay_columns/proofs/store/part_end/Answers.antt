@@ -1,7 +1,6 @@
 -- The two cases of the test.
 use native.Mathlib.Omega.{arith}
 use borrow.Author.Tests.{lt-ltb, le-ltb}
-use Rattle.lists.proofs.Indices.{index_fits}
 use Rattle.replay_columns.specs.Store.{part_end}
 use Rattle.replay_columns.proofs.store.part_end.Goals as goal
 
@@ -12,12 +11,3 @@ returns-then-i-lt2 c = (rw (lt-ltb _ _ c.if-i-lt2.true, ← c.cut_at-n.ensures.0
 pub returns : goal.returns
 unfolding part_end
 returns c = (rw (le-ltb _ _ c.if-i-lt2.false, ← c.cut_at-n.ensures.0), omega arith)
-
-pub overflow_add-result : goal.overflow_add-result
-overflow_add-result c = index_fits (omega arith)
-
-pub overflow_add-result-2 : goal.overflow_add-result-2
-overflow_add-result-2 c = index_fits (omega arith)
-
-pub overflow_add-result-3 : goal.overflow_add-result-3
-overflow_add-result-3 c = index_fits (omega arith)

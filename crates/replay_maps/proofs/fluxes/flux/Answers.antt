@@ -8,4 +8,4 @@ flux_into-requires c = search (rules, one-within)
 
 pub returns : goal.returns
 returns c =
-    rw (← c.length_at-n.ensures.0, ← c.length_at-m.ensures.0, ← c.length_at-p.ensures.0) c.flux_into.ensures
+    rw (← c.cut_at-n.ensures.0, ← c.cut_at-m.ensures.0, ← c.cut_at-p.ensures.0) c.flux_into.ensures

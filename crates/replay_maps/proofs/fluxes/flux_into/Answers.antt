@@ -3,5 +3,5 @@ use Rattle.replay_maps.proofs.fluxes.flux_into.Goals as goal
 
 pub returns : goal.returns
 returns c =
-    let e = c.triangle_mesh_flux_linkage_from_source_coefficients-refusal.ensures in
-    rw (← e.refusal, ← e.flux, ← c.same_word-a.ensures, ← c.held-b.ensures)
+    let e = c.triangle_mesh_flux_linkage_from_source_coefficients-outcome.ensures in
+    rw (← e.refusal, ← e.flux, ← c.same_refusal-a.ensures, ← c.held-b.ensures)

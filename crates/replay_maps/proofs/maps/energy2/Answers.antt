@@ -3,5 +3,5 @@ use Rattle.replay_maps.proofs.maps.energy2.Goals as goal
 
 pub returns : goal.returns
 returns c =
-    let e = c.triangle_mesh_inductance_from_potential_vectors-a.ensures in
-    rw (← c.length_at-n.ensures.0, ← c.length_at-m.ensures.0, ← c.length_at-p.ensures.0, ← e.refusal, ← e.value) c.same_value.ensures
+    let e = c.triangle_mesh_inductance_from_potential_vectors-outcome.ensures in
+    rw (← c.cut_at-n.ensures.0, ← c.cut_at-m.ensures.0, ← c.cut_at-p.ensures.0, ← e.refusal, ← e.value) c.same_value.ensures

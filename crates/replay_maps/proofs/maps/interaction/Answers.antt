@@ -3,5 +3,5 @@ use Rattle.replay_maps.proofs.maps.interaction.Goals as goal
 
 pub returns : goal.returns
 returns c =
-    let e = c.triangle_mesh_interaction_energy_from_source_coefficients-a.ensures in
-    rw (← c.length_at-n.ensures.0, ← c.length_at-m.ensures.0, ← c.length_at-p.ensures.0, ← e.refusal, ← e.value) c.same_value.ensures
+    let e = c.triangle_mesh_interaction_energy_from_source_coefficients-outcome.ensures in
+    rw (← c.cut_at-n.ensures.0, ← c.cut_at-m.ensures.0, ← c.cut_at-p.ensures.0, ← e.refusal, ← e.value) c.same_value.ensures

@@ -4,15 +4,9 @@ use native.Mathlib.Omega.{arith}
 use borrow.Author.Tests.{lt-ltb, le-ltb}
 use borrow.Author.Rules.{rules}
 use Rattle.display.specs.Display.{largest}
-use Rattle.display.proofs.Range.{signed_fits, in_word, negative-word}
+use Rattle.display.proofs.Range.{in_word, negative-word}
 use Rattle.replay_maps.specs.Shown.{signed}
 use Rattle.replay_maps.proofs.shown.signed.Goals as goal
-
-pub overflow_sub-result : goal.overflow_sub-result
-overflow_sub-result c =
-    let n = c.args.n in
-    let h : 0xffff_ffff_ffff_ffff - n + 1 ≤ largest = omega (arith, c.if-size-lt1000000000000000.true) in
-    signed_fits (0xffff_ffff_ffff_ffff - n + 1) h
 
 pub returns-then-size-lt1000000000000000 : goal.returns-then-size-lt1000000000000000
 unfolding signed

@@ -1,31 +1,20 @@
--- ok says whether the first i places hold what they must.
-use mathlib.Core.Path.{◌≡◌, refl}
-use native.Mathlib.Omega.{arith}
-use borrow.Author.Rules.{rules}
-use lib.ListN.{length}
-use Rattle.lists.proofs.Indices.{index_fits}
-use Rattle.replay_words.specs.Buffers.{held_to}
-use Rattle.replay_words.proofs.Comparing.{held_more}
+-- The call is done, or refused by a number that is not 0.
+use Rattle.std.proofs.Common.{◌∙◌, arith, eqb}
+use borrow.Author.Tests.{ne_eqb}
+use Rattle.refusal.proofs.Outcome.{never_0}
+use Rattle.replay_words.specs.Buffers.{held_by, stored_by, untouched_by}
+use Rattle.replay_words.proofs.Comparing.{zip-stored, all-below}
 use Rattle.replay_words.proofs.buffers.held.Goals as goal
 
-pub loop-i-init : goal.loop-i-init
-unfolding held_to
-loop-i-init c = (search rules, refl)
+pub returns-in-Ok : goal.returns-in-Ok
+unfolding held_by stored_by
+returns-in-Ok g c =
+    let a = c.args in
+    let s = g.T.Stored in
+    rw c.in-Ok.is (c.as_stored.ensures ∙ zip-stored s.word s.beyond a.v.now a.w.now a.k 2048 c.told-w (omega arith))
 
-pub loop-i-preserved : goal.loop-i-preserved
-loop-i-preserved c = (search rules, rw (held_more, ← c.loop-i.invariant.1, ← c.canonical_bits-bits.ensures, ← c.due_word-due.ensures))
-
-pub returns : goal.returns
-returns c =
-    let l = c.loop-i in
-    let e : l.i ≡ length c.args.v.now = omega arith in
-    rw (← e) l.invariant.1
-
-pub offset_bounds-v-i : goal.offset_bounds-v-i
-offset_bounds-v-i c = index_fits (omega arith)
-
-pub overflow_add-k : goal.overflow_add-k
-overflow_add-k c = index_fits (omega arith)
-
-pub overflow_add-i : goal.overflow_add-i
-overflow_add-i c = index_fits (omega arith)
+pub returns-in-Err : goal.returns-in-Err
+unfolding held_by untouched_by
+returns-in-Err g c =
+    let s = g.T.Stored in
+    rw (c.in-Err.is, ne_eqb _ _ (never_0 c.in-Err.field-0)) (c.untouched.ensures ∙ all-below (λ x. eqb (s.word x) s.pattern) s.beyond c.args.v.now)

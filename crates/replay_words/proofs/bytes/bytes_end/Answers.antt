@@ -1,16 +1,9 @@
 -- The code is the definition; 519 / 8 is 64.
 use mathlib.Core.Path.{refl}
 use native.Mathlib.Omega.{arith}
-use Rattle.lists.proofs.Indices.{index_fits}
 use Rattle.replay_words.specs.Bytes.{bytes_end}
 use Rattle.replay_words.proofs.bytes.bytes_end.Goals as goal
 
 pub returns : goal.returns
 unfolding bytes_end
 returns c = (refl, omega arith)
-
-pub overflow_add-result : goal.overflow_add-result
-overflow_add-result c = index_fits (omega arith)
-
-pub overflow_add-result-2 : goal.overflow_add-result-2
-overflow_add-result-2 c = index_fits (omega arith)

@@ -1,15 +1,7 @@
 -- Three comparisons.
-use native.Mathlib.Omega.{arith}
-use Rattle.lists.proofs.Indices.{index_fits}
 use Rattle.replay_words.specs.Words.{same_nine}
 use Rattle.replay_words.proofs.words.same_nine.Goals as goal
 
 pub returns : goal.returns
 unfolding same_nine
 returns c = rw (← c.same_vector-a.ensures, ← c.same_vector-b.ensures, ← c.same_vector-c.ensures)
-
-pub overflow_add-k : goal.overflow_add-k
-overflow_add-k c = index_fits (omega arith)
-
-pub overflow_add-k-2 : goal.overflow_add-k-2
-overflow_add-k-2 c = index_fits (omega arith)

@@ -1,5 +1,0 @@
--- The tests joined by `&` are the definition's.
-use Rattle.fused_guided.proofs.usable.Goals as goal
-
-pub returns : goal.returns
-returns c = rw (c.central-2.ensures, c.central.ensures)

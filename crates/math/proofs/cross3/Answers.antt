@@ -1,7 +1,0 @@
--- The three fused steps by their contracts.
-use Rattle.math.specs.Math as Spec
-use Rattle.math.proofs.cross3.Goals as goal
-
-pub returns : goal.returns
-unfolding Spec.cross3
-returns c = rw (c.mul_add-3.ensures, c.mul_add-2.ensures, c.mul_add.ensures)

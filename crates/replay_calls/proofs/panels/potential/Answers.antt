@@ -1,5 +1,0 @@
--- The calls' contracts, one after the other.
-use Rattle.replay_calls.proofs.panels.potential.Goals as goal
-
-pub returns : goal.returns
-returns c = rw (← c.triangle.ensures, ← c.new.ensures, ← c.vector.ensures, ← c.scalar_potential.ensures) c.same_number.ensures
