@@ -95,7 +95,7 @@ fn triangle_geometric_coupling_exact_directed(
     ensures { result ≡ Spec.triangle_geometric_coupling_exact_directed source target kind }
 {
     let places = points_by(&rows_of(kind), target, area(target));
-    let potentials = scalar_potentials(&source, &places.points);
+    let potentials = scalar_potentials(source, &places.points);
     weighted(quadrature_count(kind), places.weight, potentials)
 }
 

@@ -41,9 +41,9 @@ matrix-row-sized size n node z =
     rw ((differ_off size (n * n)).0 w.1.0) (row_end n n node (leb-false n node w.1.1.0))
 
 -- the matrix's number stops the call for a row, or the node decides
-pub row_stopped : (size n node : ℕ) (r : Refusal) → number r ≡ energy_refusal n size → number r ≡ matrix_row_refusal size n node
+pub row_stopped : (size n node r : ℕ) → r ≡ energy_refusal n size → (r ≡ 0 → ⊥) → r ≡ matrix_row_refusal size n node
 unfolding energy_refusal matrix_row_refusal
-row_stopped size n node r e = e ∙ sym (first_stopped (matrix_checks n size) (node_checks n node) (λ z. never_0 r (e ∙ z)))
+row_stopped size n node r e h = e ∙ sym (first_stopped (matrix_checks n size) (node_checks n node) (λ z. h (e ∙ z)))
 
 pub row-passed : (size n node : ℕ) → 0 ≡ energy_refusal n size → matrix_row_refusal size n node ≡ first (node_checks n node)
 unfolding energy_refusal matrix_row_refusal

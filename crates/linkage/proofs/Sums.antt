@@ -20,9 +20,12 @@ unfolding rows_added
 rows_more l s t i = rw add-one
 
 -- ---- what a call's clause says of its value or row
-pub value_refused : (r : Refusal) (due : Float) → plus_zero ≡ value_after (number r) due
+pub value-refused : (r : ℕ) (due : Float) → (r ≡ 0 → ⊥) → plus_zero ≡ value_after r due
 unfolding value_after
-value_refused r due = rw (ne_eqb (number r) 0 (never_0 r))
+value-refused r due n = rw (ne_eqb r 0 n)
+
+pub value_refused : (r : Refusal) (due : Float) → plus_zero ≡ value_after (number r) due
+value_refused r due = value-refused (number r) due (never_0 r)
 
 pub value_done : (due : Float) → value_after 0 due ≡ due
 unfolding value_after

@@ -1,12 +1,17 @@
-// The row of a node, as that stretch of the caller's own numbers.
+// The row of a node, as that stretch of the caller's own numbers; empty on a refusal. One call gives its number, another the row,
+// and a third either.
 ghost use Rattle.std.specs.Prelude.{◌≡◌, length, MatchResult, []};
 ghost use Rattle.refusal.specs.Outcome.{number_of};
 ghost use Rattle.linkage.specs.Row as Spec;
 
-use refusal::Refusal;
+use refusal::{Refusal, number_of};
 
-// The row of a node in a matrix for n nodes.
-pub fn triangle_mesh_matrix_row(matrix: &[f64], n: usize, node: usize) -> Result<&[f64], Refusal>
+// The row of a node in a matrix for n nodes, or its refusal.
+pub fn triangle_mesh_matrix_row_or_refusal(
+    matrix: &[f64],
+    n: usize,
+    node: usize,
+) -> Result<&[f64], Refusal>
     ensures number { number_of result ≡ Spec.matrix_row_refusal (length matrix.now) n node }
     ensures row { let due = Spec.matrix_row matrix.now n node in MatchResult result (λ row. row.now ≡ due) (λ refusal. [] ≡ due) }
 {
@@ -17,6 +22,23 @@ pub fn triangle_mesh_matrix_row(matrix: &[f64], n: usize, node: usize) -> Result
     Ok(lists::stretch(matrix, n, node))
 }
 
+// The number of the row of a node in a matrix for n nodes.
+pub fn triangle_mesh_matrix_row_refusal(matrix: &[f64], n: usize, node: usize) -> u32
+    ensures { result ≡ Spec.matrix_row_refusal (length matrix.now) n node }
+{
+    number_of(&triangle_mesh_matrix_row_or_refusal(matrix, n, node))
+}
+
+// The row of a node in a matrix for n nodes.
+pub fn triangle_mesh_matrix_row(matrix: &[f64], n: usize, node: usize) -> &[f64]
+    ensures { result.now ≡ Spec.matrix_row matrix.now n node }
+{
+    match triangle_mesh_matrix_row_or_refusal(matrix, n, node) {
+        Ok(row) => row,
+        Err(_) => &matrix[..0],
+    }
+}
+
 // The rows of a map for so many sources.
 #[tactic(auto, unfolding(crate::specs::Row::row_count))]
 fn row_count(size: usize, sources: usize) -> usize
@@ -25,9 +47,13 @@ fn row_count(size: usize, sources: usize) -> usize
     if sources == 0 { 0 } else { size / sources }
 }
 
-// The row of a node in a map for so many sources.
+// The row of a node in a map for so many sources, or its refusal.
 #[tactic(auto, unfolding(crate::specs::Row::map_row_refusal, crate::specs::Row::row_after, refusal::specs::Checks::first))]
-pub fn triangle_mesh_map_row(map: &[f64], sources: usize, node: usize) -> Result<&[f64], Refusal>
+pub fn triangle_mesh_map_row_or_refusal(
+    map: &[f64],
+    sources: usize,
+    node: usize,
+) -> Result<&[f64], Refusal>
     ensures number { number_of result ≡ Spec.map_row_refusal (length map.now) sources node }
     ensures row { let due = Spec.map_row map.now sources node in MatchResult result (λ row. row.now ≡ due) (λ refusal. [] ≡ due) }
 {
@@ -41,4 +67,21 @@ pub fn triangle_mesh_map_row(map: &[f64], sources: usize, node: usize) -> Result
         return Err(Refusal::NoSuchNode);
     }
     Ok(lists::stretch(map, sources, node))
+}
+
+// The number of the row of a node in a map for so many sources.
+pub fn triangle_mesh_map_row_refusal(map: &[f64], sources: usize, node: usize) -> u32
+    ensures { result ≡ Spec.map_row_refusal (length map.now) sources node }
+{
+    number_of(&triangle_mesh_map_row_or_refusal(map, sources, node))
+}
+
+// The row of a node in a map for so many sources.
+pub fn triangle_mesh_map_row(map: &[f64], sources: usize, node: usize) -> &[f64]
+    ensures { result.now ≡ Spec.map_row map.now sources node }
+{
+    match triangle_mesh_map_row_or_refusal(map, sources, node) {
+        Ok(row) => row,
+        Err(_) => &map[..0],
+    }
 }

@@ -1,12 +1,14 @@
 -- Elements put into a buffer one behind the other: a loop that writes a list's bytes ends in `Put` (`put_run`), two puts in a row are one (`both`), a put is a paste, and a buffer put full is the
 -- elements. Assumes nothing.
-use mathlib.Core.Path.{◌≡◌, sym, ap, ◌∙◌}
-use mathlib.Core.List.{List, [], ◌++◌, append_assoc, append-nil}
-use Prim.Native.Nat.{ℕ, ◌+◌, ◌≤◌}
+use mathlib.Core.Path.{◌≡◌, refl, sym, ap, subst, ◌∙◌}
+use mathlib.Core.List.{List, [], ◌∷◌, ◌++◌, append_assoc, append-nil}
+use Prim.Native.Nat.{ℕ, ◌+◌, ◌<◌, ◌≤◌}
 use native.Mathlib.Nat.{add-zero, zero-add}
+use native.Mathlib.Numerals.{add-one}
 use native.Mathlib.Omega.{arith}
-use lib.ListN.{length, get_or, take, drop, length-append, take-append-drop}
-use lib.Seq.{paste, take-length, take_at, drop-length, drop-append-add, drop-drop, length-take-le}
+use lib.ListN.{length, get_or, set, take, drop, length-append, take-append-drop}
+use lib.Seq.{paste, take-suc, take-length, take_at, drop-length, drop-append-add, drop-drop, length-take-le}
+use Rattle.std.proofs.lemmas.List.{take-set, drop-set}
 use Rattle.lists.specs.Putting.{Put}
 use Rattle.lists.proofs.Runs.{RunTo, all_put}
 
@@ -65,3 +67,34 @@ put_pastes {A} {held} {from} {items} p =
     p.leaves
     ∙ sym (append_assoc (take from held) items (drop (from + n) held))
     ∙ sym (ap (λ (x : List A). take from held ++ x ++ drop (from + n) held) (take-length items))
+
+-- ---- a loop that puts one element a turn
+
+-- one element, by its place
+put_one : {A : Type 0} (held : List A) (from : ℕ) (x : A) → from < length held → Put held from (x ∷ []) (set held from x) (from + 1)
+put_one {A} held from x h =
+    record {
+      behind = refl;
+      leaves = sym (take-append-drop from (set held from x))
+          ∙ (λ i. take-set held from x i ++ drop-set held from x h i);
+    }
+
+pub put_none : {A : Type 0} (held : List A) (from : ℕ) (items : List A) → Put held from (take 0 items) held (from + 0)
+put_none {A} held from items =
+    subst (λ (n : ℕ). Put held from (take 0 items) held n) (sym (add-zero from)) (none held from)
+
+-- the next element behind the first k
+pub put_next : {A : Type 0} {held now : List A} (from : ℕ) (items : List A) (k : ℕ) (x : A) → from + length items ≤ length held → k < length items → length now ≡ length held → x ≡ get_or items k x
+    → Put held from (take k items) now (from + k) → Put held from (take (k + 1) items) (set now (from + k) x) (from + (k + 1))
+put_next {A} {held} {now} from items k x room more long e p =
+    let n : length (take k items) ≡ k = length-take-le k items (omega arith) in
+    let new = set now (from + k) x in
+    let q = both held from (take k items) now (from + k) (x ∷ []) new (from + k + 1) (omega (arith, n)) p (put_one now (from + k) x (omega arith)) in
+    let m : take k items ++ (x ∷ []) ≡ take (k + 1) items =
+    ap (λ (y : A). take k items ++ (y ∷ [])) e ∙ sym (take-suc items k x more) ∙ ap (λ (j : ℕ). take j items) (sym (add-one k)) in
+    subst (λ (l : List A). Put held from l new (from + (k + 1))) m (subst (Put held from (take k items ++ (x ∷ [])) new) (omega arith) q)
+
+pub put_all : {A : Type 0} {held now : List A} (from : ℕ) (items : List A) (k : ℕ) → k ≡ length items → Put held from (take k items) now (from + k) → Put held from items now (from + length items)
+put_all {A} {held} {now} from items k e p =
+    subst (λ (l : List A). Put held from l now (from + length items)) (take-length items)
+    (subst (λ (n : ℕ). Put held from (take n items) now (from + n)) e p)

@@ -16,14 +16,16 @@ pub fn columns_differ(n: usize, a: usize, b: usize, c: usize) -> bool
     (a != n) | ((b != n) | (c != n))
 }
 
-// Puts items into out from `from` on, and answers the index behind them.
+// Puts items into out from `from` on, and answers the index behind them. By an index: the library's copy of slices would
+// have the archive for C need `memmove` from outside.
 pub fn put<T: Copy>(out: &mut [T], from: usize, items: &[T]) -> usize
     requires { from + length items.now ≤ length out.old }
     ensures { Put out.old from items.now out.new result }
 {
-    let end = from + items.len();
-    out[from..end].copy_from_slice(items);
-    end
+    for k in 0..items.len() {
+        out[from + k] = items[k];
+    }
+    from + items.len()
 }
 
 // w numbers from i · w on.

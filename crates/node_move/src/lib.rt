@@ -23,6 +23,7 @@ use tri::quadrature::QuadratureKind;
 // each function would have to promise that it leaves the same references there.
 
 // The ring of node v is marked. A function of its own: the room of its marks is free when the cells are worked out.
+#[inline(never)]
 fn mark_ring(marks: &mut [bool], panels: &PanelColumns, v: usize)
     requires panel_columns_alike { PanelColumnsAlike (viewed_panels panels.now) }
     requires indices_below { IndicesBelow max_nodes (viewed_panels panels.now) }

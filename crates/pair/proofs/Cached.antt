@@ -18,7 +18,6 @@ use Rattle.panel_distance.proofs.Boxes.{bounds_apart}
 use Rattle.pair_far_test.proofs.Nearness.{beyond_is}
 use Rattle.pair.specs.Pair.{panel_numbers, source_numbers, Known, KnownSource}
 
--- the densities are three vectors of three numbers, so nothing is lost
 pub cached_densities : (p : Panel) → Known p → p.densities ≡ triangle_basis_current_densities p.corners
 unfolding Known panel_numbers
 cached_densities p k = ap (λ (q : Panel). q.densities) k

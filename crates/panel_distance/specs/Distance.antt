@@ -1,4 +1,4 @@
--- inductance.rs: squared distances between points, segments, triangles and their boxes. Definitions only.
+-- inductance.rs: squared distances between points, segments, triangles and their boxes; the last part, boxes that are kept, is inner form. Definitions only.
 use Rattle.std.specs.Prelude.{ℕ, false, cond, [], ◌∷◌, Float}
 use Rattle.std.specs.Float.{inf}
 use Rattle.std.specs.Float.Ieee.{lt, neg}

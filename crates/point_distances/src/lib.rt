@@ -6,7 +6,7 @@ ghost use Rattle.std.specs.Prelude.{◌≡◌, ℕ, ◌+◌, ◌*◌, ◌≤◌,
 ghost use Rattle.binary64.specs.Binary64.{◌⊖◌, at};
 ghost use Rattle.math.specs.Math.{norm3};
 ghost use Rattle.square_root.specs.Estimate.{root_estimate};
-ghost use Rattle.length_lanes.specs.Length.{SquareOf};
+ghost use Rattle.length_lanes.specs.Length.{SquareOf, square_at};
 ghost use Rattle.lists.specs.Filling.{run};
 ghost use Rattle.point_distances.specs.Distances as Spec;
 ghost use Rattle.point_distances.specs.Distances.{max_pairs, vector};
@@ -34,8 +34,7 @@ struct Vectors {
 // q less each of the first n numbers, from index start.
 fn difference_row(q: f64, x: &[f64], n: usize, start: usize, out: &mut [f64; MAX_PAIRS])
     requires { (n ≤ length x.now) × (start + n ≤ max_pairs) }
-    ensures row { (j : ℕ) → j < n → at out.new (start + j) ≡ q ⊖ at x.now j }
-    ensures before { (k : ℕ) → k < start → at out.new k ≡ at out.old k }
+    ensures { out.new ≡ run out.old start n (λ j. q ⊖ at x.now j) n }
 {
     for j in 0..n {
         out[start + j] = q - x[j];
@@ -45,7 +44,7 @@ fn difference_row(q: f64, x: &[f64], n: usize, start: usize, out: &mut [f64; MAX
 // One coordinate of all pairs, point i of the first n less point j at i * n + j.
 fn differences(a: &[f64], x: &[f64], n: usize, out: &mut [f64; MAX_PAIRS])
     requires { (n ≤ length a.now) × (n ≤ length x.now) × (n ≤ max_points) }
-    ensures { (i j : ℕ) → i < n → j < n → at out.new (i * n + j) ≡ at a.now i ⊖ at x.now j }
+    ensures { out.new ≡ run out.old 0 (n * n) (Spec.difference a.now x.now n) (n * n) }
 {
     for i in 0..n {
         difference_row(a[i], x, n, i * n, out);
@@ -55,7 +54,8 @@ fn differences(a: &[f64], x: &[f64], n: usize, out: &mut [f64; MAX_PAIRS])
 // The squares of the lengths of the first count vectors, or NaN where a rounding is not settled.
 fn square_lanes(v: &Vectors, count: usize, out: &mut [f64; MAX_PAIRS])
     requires { count ≤ max_pairs }
-    ensures { (k : ℕ) → k < count → SquareOf (vector v.now k) (at out.new k) }
+    ensures out_value { out.new ≡ run out.old 0 count (square_at v.now.x v.now.y v.now.z) count }
+    ensures by_index { (k : ℕ) → k < count → SquareOf (vector v.now k) (at out.new k) }
 {
     for k in 0..count {
         out[k] = length_lanes::square_lane(v.x[k], v.y[k], v.z[k]);
@@ -65,7 +65,7 @@ fn square_lanes(v: &Vectors, count: usize, out: &mut [f64; MAX_PAIRS])
 // Guesses of the roots of the first count numbers.
 fn estimates(s: &[f64; MAX_PAIRS], count: usize, out: &mut [f64; MAX_PAIRS])
     requires { count ≤ max_pairs }
-    ensures { (k : ℕ) → k < count → at out.new k ≡ root_estimate (at s.now k) }
+    ensures { out.new ≡ run out.old 0 count (λ k. root_estimate (at s.now k)) count }
 {
     for k in 0..count {
         out[k] = square_root::root_estimate(s[k]);

@@ -257,7 +257,7 @@ impl UniformTriangle {
     pub fn contains_on_surface(self, obs: [f64; 3]) -> bool
         ensures { result ≡ Spec.contains_on_surface self obs }
     {
-        let closest = tri::tri3::closest_point(obs, self.nodes);
+        let closest = tri::tri3::closest_point(obs, self.nodes());
         let delta = math::sub3(obs, closest);
         let scale = ieee754::max(math::norm3(obs), self.max_edge);
         let tolerance = SURFACE_EPSILON_FACTOR * EPSILON * scale;

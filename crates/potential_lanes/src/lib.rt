@@ -8,6 +8,7 @@ ghost use Rattle.ieee754.specs.Ieee754.{sqrt};
 ghost use Rattle.square_root.specs.Estimate.{root_estimate};
 ghost use Rattle.elementary.specs.Elementary.{asinh};
 ghost use Rattle.math.specs.Math.{norm3, sub3, dot3, cross3};
+ghost use Rattle.length_lanes.specs.Length.{square_at};
 ghost use Rattle.panel_points.specs.Points.{point};
 ghost use Rattle.potential.specs.Potential as Potential;
 ghost use Rattle.potential_lanes.specs.Seven as Spec;
@@ -154,7 +155,8 @@ fn vectors_from(corner: [f64; 3], points: &Points) -> Points
 
 // The squared lengths of the vectors, or NaN.
 fn square_lanes(v: &Points) -> [f64; MAX_POINTS]
-    ensures { (i : ℕ) → i < max_points → Spec.SquareOf (point v.now i) (at result i) }
+    ensures by_index { (i : ℕ) → i < max_points → at result i ≡ square_at v.now.x v.now.y v.now.z i }
+    ensures squares_of { (i : ℕ) → i < max_points → Spec.SquareOf (point v.now i) (at result i) }
 {
     array::from_fn(|i| length_lanes::square_lane(v.x[i], v.y[i], v.z[i]))
 }
@@ -242,12 +244,12 @@ fn less_solid_angles(
 }
 
 // The potential at each of seven points.
-pub fn scalar_potentials(p: &UniformTriangle, points: &Points) -> [f64; MAX_POINTS]
-    ensures { (i : ℕ) → i < max_points → at result i ≡ Potential.scalar_potential p.now (point points.now i) }
+pub fn scalar_potentials(p: UniformTriangle, points: &Points) -> [f64; MAX_POINTS]
+    ensures { (i : ℕ) → i < max_points → at result i ≡ Potential.scalar_potential p (point points.now i) }
 {
     let d = distances_from_plane(p.nodes[0], p.normal, points);
-    let first = add_edge(p, 0, points, d, [0.0; MAX_POINTS]);
-    let second = add_edge(p, 1, points, d, first);
-    let value = add_edge(p, 2, points, d, second);
-    less_solid_angles(p, points, d, value)
+    let first = add_edge(&p, 0, points, d, [0.0; MAX_POINTS]);
+    let second = add_edge(&p, 1, points, d, first);
+    let value = add_edge(&p, 2, points, d, second);
+    less_solid_angles(&p, points, d, value)
 }

@@ -1,3 +1,3 @@
-mod Made
-mod Totals
-mod Turns
+pub mod Made
+pub mod Totals
+pub mod Turns

@@ -4,7 +4,7 @@
 #![tactic(auto)]
 
 pub mod case;
-mod input;
-mod print;
+pub mod input;
+pub mod print;
 pub mod run;
-mod tally;
+pub mod tally;

@@ -1,5 +1,5 @@
 // A program that replays the cases of standard input.
-ghost use Rattle.std.specs.Prelude.{◌≡◌, ℕ, List, Bool};
+ghost use Rattle.std.specs.Prelude.{◌≡◌, ◌<◌, ℕ, List, Bool};
 ghost use Rattle.replay_cases.specs.Tally as Spec;
 
 use crate::tally::Tally;
@@ -13,15 +13,24 @@ pub trait Replay {
         ensures { result ≡ agrees kind b.now };
 }
 
-// The next case, worked out and counted, as differing unless its results are ours; false if there is none.
+// A case by its kind and its bytes behind the head: counted, and as differing unless its results are ours.
+fn verdict<R: Replay>(tally: &mut Tally, kind: usize, b: &[u8; 16384])
+    requires { kind < 128 }
+    ensures cases_value { tally.new.cases ≡ Spec.counted tally.old.cases kind }
+    ensures differ_value { tally.new.differ ≡ Spec.judged (R.agrees kind b.now) tally.old.differ kind }
+{
+    let agrees = R::agrees(kind as u64, b);
+    tally.count(kind, agrees);
+}
+
+// The next case, worked out and counted; false if there is none.
 fn replayed<R: Replay>(tally: &mut Tally) -> bool
     ensures { Spec.Turn R.agrees tally.old.cases tally.old.differ result tally.new.cases tally.new.differ }
 {
     match input::next() {
         None => false,
         Some(case) => {
-            let agrees = R::agrees(case.kind as u64, &case.bytes);
-            tally.count(case.kind, agrees);
+            verdict::<R>(tally, case.kind, &case.bytes);
             true
         }
     }

@@ -92,7 +92,7 @@ pub fn screens_matrix_row(
 ) -> u32
     ensures { RowAt (Row.matrix_row_refusal (List.length matrix.now) n node) n node result offset.new count.new }
 {
-    match linkage::row::triangle_mesh_matrix_row(matrix, n, node) {
+    match linkage::row::triangle_mesh_matrix_row_or_refusal(matrix, n, node) {
         Ok(_) => {
             *offset = node * n;
             *count = n;
@@ -116,7 +116,7 @@ pub fn screens_map_row(
 ) -> u32
     ensures { RowAt (Row.map_row_refusal (List.length map.now) sources node) sources node result offset.new count.new }
 {
-    match linkage::row::triangle_mesh_map_row(map, sources, node) {
+    match linkage::row::triangle_mesh_map_row_or_refusal(map, sources, node) {
         Ok(_) => {
             *offset = node * sources;
             *count = sources;

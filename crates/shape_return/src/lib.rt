@@ -73,9 +73,9 @@ fn set_nodes(x: &mut [f64], y: &mut [f64], z: &mut [f64], shape: &NodeColumns)
     requires as_many { length shape.now.x.now ≡ length x.old }
     ensures { nodes_of x.new y.new z.new ≡ viewed_nodes shape.now }
 {
-    x.copy_from_slice(shape.x);
-    y.copy_from_slice(shape.y);
-    z.copy_from_slice(shape.z);
+    lists::put(x, 0, shape.x);
+    lists::put(y, 0, shape.y);
+    lists::put(z, 0, shape.z);
 }
 
 // Lent coordinates as one value.

@@ -19,4 +19,4 @@ unfolding Spec.distances
 returns c =
     let a = c.args in
     c.far_sums.ensures
-    ∙ far_rows a.count a.s.now a.t.now _ (λ i j h m. pair_at _ _ _ _ a.count i j (pairs_fit a.count c.requires) c.distances.ensures h m)
+    ∙ far_rows a.count a.s.now a.t.now _ (λ i j h m. pair_at _ _ _ _ a.count i j c.distances.ensures h m)

@@ -1,7 +1,8 @@
--- The first j numbers of the row are in place, and those before it as they were.
-use Rattle.std.proofs.Common.{length, ◌≡◌, ℕ, ◌+◌, ◌<◌, length}
-use Rattle.binary64.specs.Binary64.{at, ◌⊖◌}
+-- After j turns the first j differences from index start are in place.
+use Prim.Native.Nat.{ℕ}
+use Rattle.binary64.specs.Binary64.{◌⊖◌, at}
+use Rattle.lists.proofs.Runs.{RunTo}
 use Rattle.point_distances.proofs.difference_row.Given as goal
 
 abbrev pub invariant-loop-j : goal.invariant-loop-j
-invariant-loop-j l = (length l.out ≡ 49) × ((i : ℕ) → i < l.j → at l.out (l.start + i) ≡ l.q ⊖ at l.x i) × ((k : ℕ) → k < l.start → at l.out k ≡ at l.initial.out k)
+invariant-loop-j l = RunTo l.initial.out l.start l.n (λ (i : ℕ). l.q ⊖ at l.x i) l.j l.out

@@ -1,11 +1,14 @@
--- A turn writes the next number.
-use Rattle.std.proofs.Common.{◌≡◌, arith, rules}
-use Rattle.binary64.specs.Binary64.{at}
-use Rattle.square_root.specs.Estimate.{root_estimate}
-use Rattle.point_distances.proofs.Turns.{turned}
+-- After k turns the first k estimates are in place.
+use mathlib.Core.Path.{refl}
+use native.Mathlib.Omega.{arith}
+use Rattle.lists.proofs.Runs.{begun, front_further, all_run}
 use Rattle.point_distances.proofs.estimates.Goals as goal
 
 pub loop-k-preserved : goal.loop-k-preserved
-loop-k-preserved c =
-    let l = c.loop-k in
-    (search rules, turned (λ j x. x ≡ root_estimate (at c.args.s.now j)) l.out l.k _ (omega arith) l.invariant.1 c.root_estimate.ensures)
+loop-k-preserved c = front_further c.loop-k.invariant (omega arith) refl c.root_estimate.ensures
+
+pub loop-k-init : goal.loop-k-init
+loop-k-init c = begun (omega arith)
+
+pub returns : goal.returns
+returns c = all_run c.loop-k.invariant (omega arith)

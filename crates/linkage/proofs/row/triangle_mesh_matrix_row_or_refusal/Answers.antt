@@ -4,19 +4,20 @@ use Prim.Native.Nat.{ℕ, ◌<◌}
 use borrow.Author.Tests.{le-leb, lt-leb}
 use lib.ListN.{length}
 use Rattle.std.proofs.lemmas.Result.{err_from_is_err_and}
+use Rattle.refusal.proofs.Outcome.{never_0}
 use Rattle.refusal.specs.Checks.{first}
 use Rattle.refusal.specs.declared.Refusal.TheVariants.{NoSuchNode}
 use Rattle.linkage.specs.Energy.{energy_refusal}
 use Rattle.linkage.specs.Row.{matrix_row_refusal}
 use Rattle.linkage.proofs.Sums.{row_refused, row_done}
 use Rattle.linkage.proofs.Sizes.{matrix-row-sized, row_stopped, row-passed}
-use Rattle.linkage.proofs.row.triangle_mesh_matrix_row.Goals as goal
+use Rattle.linkage.proofs.row.triangle_mesh_matrix_row_or_refusal.Goals as goal
 
 pub returns-in_err-check_energy : goal.returns-in_err-check_energy
 returns-in_err-check_energy c =
     let a = c.args in
     let p = err_from_is_err_and c.from_residual.result c.from_residual.ensures.1 in
-    let e = row_stopped (length a.matrix.now) a.n a.node _ c.in_err-check_energy.ensures in
+    let e = row_stopped (length a.matrix.now) a.n a.node _ c.in_err-check_energy.ensures (never_0 _) in
     rw (p.1, p.2) (record { number = e; row = row_refused _ _ e })
 
 pub returns-then-n-node : goal.returns-then-n-node

@@ -4,7 +4,7 @@ use lib.ListN.{length}
 use Rattle.refusal.specs.Checks.{first}
 use Rattle.linkage.specs.Row.{map_row_refusal}
 use Rattle.linkage.proofs.Sizes.{map-row-sized}
-use Rattle.linkage.proofs.row.triangle_mesh_map_row.Goals as goal
+use Rattle.linkage.proofs.row.triangle_mesh_map_row_or_refusal.Goals as goal
 
 pub stretch-requires : goal.stretch-requires
 unfolding map_row_refusal first
