@@ -8,9 +8,6 @@ use borrow.Author.Tests.{eqb-true, eq-eqb, leb-false}
 use lib.Dec.{eqb}
 use Rattle.refusal.specs.Numbers.{nodal_values}
 use Rattle.refusal.specs.Checks.{check, first, Clear}
-use Rattle.refusal.specs.Outcome.{number}
-use Rattle.refusal.specs.declared.Refusal.{Refusal}
-use Rattle.refusal.proofs.Outcome.{never_0}
 use Rattle.refusal.proofs.Checks.{none-applies, first-passed, first_stopped}
 use Rattle.refusal.proofs.Tests.{or_off, differ_off}
 use Rattle.lists.proofs.Stretches.{row_end}

@@ -1,5 +1,5 @@
 // The row of a node, as that stretch of the caller's own numbers; empty on a refusal. One call gives its number, another the row,
-// and a third either.
+// and a third either. A matrix's and a map's are twins in shape alone: their checks are other lists.
 ghost use Rattle.std.specs.Prelude.{◌≡◌, length, MatchResult, []};
 ghost use Rattle.refusal.specs.Outcome.{number_of};
 ghost use Rattle.linkage.specs.Row as Spec;
@@ -33,10 +33,7 @@ pub fn triangle_mesh_matrix_row_refusal(matrix: &[f64], n: usize, node: usize) -
 pub fn triangle_mesh_matrix_row(matrix: &[f64], n: usize, node: usize) -> &[f64]
     ensures { result.now ≡ Spec.matrix_row matrix.now n node }
 {
-    match triangle_mesh_matrix_row_or_refusal(matrix, n, node) {
-        Ok(row) => row,
-        Err(_) => &matrix[..0],
-    }
+    triangle_mesh_matrix_row_or_refusal(matrix, n, node).unwrap_or(&matrix[..0])
 }
 
 // The rows of a map for so many sources.
@@ -80,8 +77,5 @@ pub fn triangle_mesh_map_row_refusal(map: &[f64], sources: usize, node: usize) -
 pub fn triangle_mesh_map_row(map: &[f64], sources: usize, node: usize) -> &[f64]
     ensures { result.now ≡ Spec.map_row map.now sources node }
 {
-    match triangle_mesh_map_row_or_refusal(map, sources, node) {
-        Ok(row) => row,
-        Err(_) => &map[..0],
-    }
+    triangle_mesh_map_row_or_refusal(map, sources, node).unwrap_or(&map[..0])
 }

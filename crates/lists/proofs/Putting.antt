@@ -1,5 +1,5 @@
--- Elements put into a buffer one behind the other: a loop that writes a list's bytes ends in `Put` (`put_run`), two puts in a row are one (`both`), a put is a paste, and a buffer put full is the
--- elements. Assumes nothing.
+-- Elements put into a buffer one behind the other: two puts in a row are one (`both`), a put is a paste, and a buffer put full is the elements. A loop that puts one element a turn puts none at
+-- first, then the next behind the first k (`put_next`), and at its end all; a loop that writes a list's bytes and holds `RunTo` ends in `Put` (`put_run`). Assumes nothing.
 use mathlib.Core.Path.{◌≡◌, refl, sym, ap, subst, ◌∙◌}
 use mathlib.Core.List.{List, [], ◌∷◌, ◌++◌, append_assoc, append-nil}
 use Prim.Native.Nat.{ℕ, ◌+◌, ◌<◌, ◌≤◌}
@@ -79,12 +79,14 @@ put_one {A} held from x h =
           ∙ (λ i. take-set held from x i ++ drop-set held from x h i);
     }
 
+-- none of the items, at the loop's start
 pub put_none : {A : Type 0} (held : List A) (from : ℕ) (items : List A) → Put held from (take 0 items) held (from + 0)
 put_none {A} held from items =
     subst (λ (n : ℕ). Put held from (take 0 items) held n) (sym (add-zero from)) (none held from)
 
 -- the next element behind the first k
-pub put_next : {A : Type 0} {held now : List A} (from : ℕ) (items : List A) (k : ℕ) (x : A) → from + length items ≤ length held → k < length items → length now ≡ length held → x ≡ get_or items k x
+pub put_next : {A : Type 0} {held now : List A} (from : ℕ) (items : List A) (k : ℕ) (x : A)
+    → from + length items ≤ length held → k < length items → length now ≡ length held → x ≡ get_or items k x
     → Put held from (take k items) now (from + k) → Put held from (take (k + 1) items) (set now (from + k) x) (from + (k + 1))
 put_next {A} {held} {now} from items k x room more long e p =
     let n : length (take k items) ≡ k = length-take-le k items (omega arith) in
@@ -94,7 +96,9 @@ put_next {A} {held} {now} from items k x room more long e p =
     ap (λ (y : A). take k items ++ (y ∷ [])) e ∙ sym (take-suc items k x more) ∙ ap (λ (j : ℕ). take j items) (sym (add-one k)) in
     subst (λ (l : List A). Put held from l new (from + (k + 1))) m (subst (Put held from (take k items ++ (x ∷ [])) new) (omega arith) q)
 
-pub put_all : {A : Type 0} {held now : List A} (from : ℕ) (items : List A) (k : ℕ) → k ≡ length items → Put held from (take k items) now (from + k) → Put held from items now (from + length items)
+-- the loop's end
+pub put_all : {A : Type 0} {held now : List A} (from : ℕ) (items : List A) (k : ℕ) → k ≡ length items
+    → Put held from (take k items) now (from + k) → Put held from items now (from + length items)
 put_all {A} {held} {now} from items k e p =
     subst (λ (l : List A). Put held from l now (from + length items)) (take-length items)
     (subst (λ (n : ℕ). Put held from (take n items) now (from + n)) e p)

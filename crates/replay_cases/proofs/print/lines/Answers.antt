@@ -1,5 +1,5 @@
 -- sum is the total of the first k.
-use Rattle.std.proofs.Common.{◌≡◌, refl, arith}
+use Rattle.std.proofs.Common.{refl}
 use Rattle.replay_cases.specs.Tally.{total}
 use Rattle.replay_cases.proofs.Totals.{total_more}
 use Rattle.replay_cases.proofs.print.lines.Goals as goal
